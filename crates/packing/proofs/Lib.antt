@@ -1,0 +1,10 @@
+pub mod Numerals
+pub mod Widths
+pub mod Firsts
+pub mod Packing
+pub mod Reading
+pub mod Faults
+pub mod Bitwise
+pub mod Round
+pub mod Earliest
+pub mod Outcomes
