@@ -29,3 +29,11 @@ width-eights b k = omega (arith, eights b k)
 
 pub byte-eights : (b k : ℕ) → k / 8 * b + (k % 8 * b) / 8 ≡ byteOf b k
 byte-eights b k = omega (arith, eights b k)
+
+-- a packed vector has at most as many bytes as elements
+pub width-under : (b k : ℕ) → b ≤ 8 → width b k ≤ k
+width-under b k h = omega (arith, width-few b k h, width-eights b k)
+
+-- and at least one where it has any
+pub width-some : (b k : ℕ) → 1 ≤ b → 1 ≤ k → 1 ≤ width b k
+width-some b k h l = omega (arith, mul-le 1 1 b k h l)

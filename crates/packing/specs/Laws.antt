@@ -2,7 +2,7 @@
 use mathlib.Core.Path.{_≡_}
 use mathlib.Core.List.{List}
 use mathlib.Core.Logic.{_⊎_}
-use Prim.Native.Nat.{ℕ, _<_, _≤_, _-_, _*_, _/_, _%_, _^_}
+use Prim.Native.Nat.{ℕ, _<_, _≤_, _+_, _-_, _/_, _%_, _^_}
 use lib.ListN.{length, getD}
 use Rattle.std.specs.shelf.Lists.{All}
 use Rattle.std.specs.declared.result.Result.{Result}
@@ -26,11 +26,12 @@ pub record Unpacks (q b : ℕ) (bytes v : List ℕ) : Type 0 where
   pub fills : (c : ℕ) → bitAt 8 bytes c ≡ bitAt b v c
   pub redone : packOf q b v (length bytes) ≡ Ok bytes
 
--- what is wrong with bytes in a signature, by number and place: an element that is no code, at the byte of its lowest bit; the pad, at the last byte
-abbrev pub Wrong : ℕ → ℕ → ℕ → List ℕ → ℕ → ℕ → Type 0
-Wrong q b k bytes number place =
-    ((number ≡ 10) × ((i : ℕ) × (i < k) × (q ≤ getD (elements b k bytes) i 0) × (place ≡ byteOf b i)))
-    ⊎ ((number ≡ 11) × (pad b k bytes ≡ 0 → ⊥) × (place ≡ width b k - 1))
+-- what is wrong with the bytes of a vector that begins at byte `at` of a signature, by number and place:
+-- an element that is no code, at the byte of its lowest bit; the pad, at the last byte
+abbrev pub Wrong : ℕ → ℕ → ℕ → ℕ → List ℕ → ℕ → ℕ → Type 0
+Wrong q b at k bytes number place =
+    ((number ≡ 10) × ((i : ℕ) × (i < k) × (q ≤ getD (elements b k bytes) i 0) × (place ≡ at + byteOf b i)))
+    ⊎ ((number ≡ 11) × (pad b k bytes ≡ 0 → ⊥) × (place ≡ at + (width b k - 1)))
 
 -- and in a key: the element, or past the last for the pad
 abbrev pub KeyWrong : ℕ → ℕ → ℕ → List ℕ → ℕ → ℕ → Type 0

@@ -2,7 +2,7 @@
 -- k elements are one number, the sum of v(i) * (2^b)^i; its bytes, lowest first, are the packed form.
 use mathlib.Core.Bool.{cond}
 use mathlib.Core.List.{List, [], _∷_}
-use Prim.Native.Nat.{ℕ, suc, _+_, _-_, _*_, _/_, _^_}
+use Prim.Native.Nat.{ℕ, suc, _+_, _-_, _*_, _/_, _^_, _<_}
 use lib.Dec.{eqb, ltb}
 use lib.ListN.{length}
 use Rattle.std.specs.declared.result.Result.{Result}
@@ -46,10 +46,15 @@ fault q b k bytes =
     (Err (NoCode (firstNot q (elements b k bytes))))
     (cond (eqb (pad b k bytes) 0) (Ok tt) (Err PadBits))
 
--- in a signature, by a byte of the vector
-abbrev pub inSignature : ℕ → ℕ → Fault → Refusal
-inSignature b k (NoCode i) = Element (byteOf b i)
-inSignature b k PadBits = Pad (width b k - 1)
+-- a faulty element is one of the k
+abbrev pub Within : ℕ → Fault → Type 0
+Within k (NoCode i) = i < k
+Within k PadBits = Unit {0}
+
+-- in a signature, where the vector begins at byte `at`: by a byte of the signature
+abbrev pub inSignature : ℕ → ℕ → ℕ → Fault → Refusal
+inSignature b at k (NoCode i) = Element (at + byteOf b i)
+inSignature b at k PadBits = Pad (at + (width b k - 1))
 
 -- in a public key, by an element, or past the last for the pad
 abbrev pub inKey : ℕ → Fault → Refusal
@@ -83,7 +88,7 @@ unpackBy f q b k bytes =
     Ok (elements b k bytes)))
 
 abbrev pub unpackOf : ℕ → ℕ → ℕ → List ℕ → Result (List ℕ) Refusal
-unpackOf q b k bytes = unpackBy (inSignature b k) q b k bytes
+unpackOf q b k bytes = unpackBy (inSignature b 0 k) q b k bytes
 
 abbrev pub unpackKeyOf : ℕ → ℕ → ℕ → List ℕ → Result (List ℕ) Refusal
 unpackKeyOf q b k bytes = unpackBy (inKey k) q b k bytes

@@ -1,7 +1,7 @@
 // What can be wrong with a packed vector, and how a signature and a key refuse it.
 ghost use mathlib.Core.Path.{_≡_};
-ghost use Prim.Native.Nat.{_+_, _*_, _/_, _<_, _≤_};
-ghost use Rattle.packing.specs.Packed.{width, byteOf, inSignature, inKey};
+ghost use Prim.Native.Nat.{_+_, _^_, _<_, _≤_};
+ghost use Rattle.packing.specs.Packed.{width, byteOf, inSignature, inKey, Within};
 use crate::encoding::Encoding;
 use refusal::Refusal;
 
@@ -14,16 +14,18 @@ pub enum Fault {
 }
 
 impl Fault {
-    // The refusal of a vector of `k` elements in a signature, at a byte of the vector.
-    pub fn in_signature(self, encoding: Encoding, k: usize) -> Refusal
-        ensures { λ r. ⌜ r ≡ inSignature (encoding .bits) k self ⌝ }
+    // The refusal of a vector of `k` elements that begins at byte `at` of a signature.
+    pub fn in_signature(self, encoding: Encoding, at: usize, k: usize) -> Refusal
+        requires near { ⌜ at + k < 2 ^ 64 ⌝ }
+        requires within { ⌜ Within k self ⌝ }
+        ensures { λ r. ⌜ r ≡ inSignature (encoding .bits) at k self ⌝ }
     {
         match self {
             Fault::Element(i) => Refusal::Element {
-                place: encoding.byte_of(i),
+                place: at + encoding.byte_of(i),
             },
             Fault::Pad => Refusal::Pad {
-                place: encoding.width(k).saturating_sub(1),
+                place: at + encoding.width(k).saturating_sub(1),
             },
         }
     }

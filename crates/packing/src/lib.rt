@@ -44,7 +44,7 @@ pub fn unpack(encoding: Encoding, bytes: &[u8], out: &mut [u8]) -> Result<(), Re
     ensures answer { λ r. ⌜ r ≡ told (unpackOf (encoding .order) (encoding .bits) (length (now (out .entry))) (now (bytes .entry))) ⌝ }
     ensures bytes { λ _. ⌜ now (out .exit) ≡ written (length (now (out .entry))) (unpackOf (encoding .order) (encoding .bits) (length (now (out .entry))) (now (bytes .entry))) ⌝ }
     ensures law { λ r. ⌜ (r ≡ Ok tt → Unpacks (encoding .order) (encoding .bits) (now (bytes .entry)) (now (out .exit))) ⌝ }
-    ensures judged { λ r. ⌜ (length (now (bytes .entry)) ≡ width (encoding .bits) (length (now (out .entry))) → Judges (Wrong (encoding .order) (encoding .bits) (length (now (out .entry))) (now (bytes .entry))) r) ⌝ }
+    ensures judged { λ r. ⌜ (length (now (bytes .entry)) ≡ width (encoding .bits) (length (now (out .entry))) → Judges (Wrong (encoding .order) (encoding .bits) 0 (length (now (out .entry))) (now (bytes .entry))) r) ⌝ }
 {
     let k = out.len();
     out.fill(0);
@@ -56,7 +56,7 @@ pub fn unpack(encoding: Encoding, bytes: &[u8], out: &mut [u8]) -> Result<(), Re
             read(encoding, bytes, out);
             Ok(())
         }
-        Err(fault) => Err(fault.in_signature(encoding, k)),
+        Err(fault) => Err(fault.in_signature(encoding, 0, k)),
     }
 }
 
