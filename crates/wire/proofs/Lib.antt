@@ -1,3 +1,4 @@
 pub mod Rounds
 pub mod Judged
 pub mod Everywhere
+pub mod Locating

@@ -8,6 +8,9 @@ ghost use Rattle.packing.specs.Laws.{Judges};
 ghost use Rattle.params.specs.Sets.{good};
 ghost use Rattle.params.specs.Sizes.{signatureLength};
 ghost use Rattle.wire.specs.Layout.{vectorAt, scanned, vectorsOf, Faulty};
+
+pub mod locate;
+
 use packing::bits::inspect;
 use packing::encoding::Encoding;
 use params::Set;
