@@ -80,3 +80,6 @@ pub fn unpack_key(encoding: Encoding, bytes: &[u8], out: &mut [u8]) -> Result<()
         Err(fault) => Err(fault.in_key(k)),
     }
 }
+
+#[cfg(test)]
+mod tests;

@@ -68,3 +68,6 @@ pub fn check_vectors(encoding: Encoding, set: Set, signature: &[u8]) -> Result<(
     }
     scan(encoding, set, signature)
 }
+
+#[cfg(test)]
+mod tests;

@@ -1,0 +1,27 @@
+-- The table of worked cases. Numbers with 0x are bytes.
+use mathlib.Core.Path.{_≡_}
+use mathlib.Core.List.{[], _∷_}
+use Prim.Native.Nat.{ℕ}
+use Rattle.std.specs.declared.result.Result.the-variants.{Ok, Err}
+use Rattle.refusal.specs.declared.Refusal.the-variants.{Element, Pad}
+use Rattle.field.specs.Coding.{reads}
+use Rattle.gf31.specs.Modulo.{coding31}
+use Rattle.packing.specs.Packed.{packOf, unpackOf}
+use Rattle.params.specs.declared.Set.{Set}
+use Rattle.params.specs.Sizes.{coefficientsOf, keyLength, signatureLength}
+
+-- MQDSS-31-64
+abbrev pub large : Set
+large = record { n = 64; m = 64; r = 269 }
+
+pub record Cases : Type 0 where
+  -- (1, 2) packs into 41 00
+  pub pair : packOf (coding31 .q) (coding31 .bits) (1 ∷ 2 ∷ []) 2 ≡ Ok (0x41 ∷ 0x00 ∷ [])
+  -- one element: 1F is refused with 10, 27 with 11
+  pub element : unpackOf (coding31 .q) (coding31 .bits) 1 (0x1F ∷ []) ≡ Err (Element 0)
+  pub pad : unpackOf (coding31 .q) (coding31 .bits) 1 (0x27 ∷ []) ≡ Err (Pad 0)
+  -- C, B(C), and the lengths of a public key and a signature
+  pub coefficients : coefficientsOf large ≡ 137216
+  pub drawing : reads (coefficientsOf large) ≡ 154432
+  pub key : keyLength (coding31 .bits) large ≡ 72
+  pub signature : signatureLength (coding31 .bits) large ≡ 40952
