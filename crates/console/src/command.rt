@@ -50,9 +50,15 @@ fn run_scan(rt: &LibcRuntime, set: Set, path: &str) -> io::Result<bool> {
     if let Err(Refusal::SignatureLength) = report.verdict {
         let found = bytes.len();
         if found > wanted {
-            eprintln!(rt, "mqdss: {path}: too long, a signature of this set has {wanted} bytes")?;
+            eprintln!(
+                rt,
+                "mqdss: {path}: too long, a signature of this set has {wanted} bytes"
+            )?;
         } else {
-            eprintln!(rt, "mqdss: {path}: {found} bytes, a signature of this set has {wanted}")?;
+            eprintln!(
+                rt,
+                "mqdss: {path}: {found} bytes, a signature of this set has {wanted}"
+            )?;
         }
     }
     Ok(report.verdict.is_ok())

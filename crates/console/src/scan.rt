@@ -89,7 +89,10 @@ pub impl fmt::Display for Report as ReportDisplay {
         let rounds = self.set.r;
         let vectors = rounds.saturating_mul(3);
         match self.verdict {
-            Ok(()) => write!(f, "read {bytes} bytes: {rounds} rounds, {vectors} vectors\nlawful"),
+            Ok(()) => write!(
+                f,
+                "read {bytes} bytes: {rounds} rounds, {vectors} vectors\nlawful"
+            ),
             Err(refusal) => match self.spot {
                 Some(spot) => write!(
                     f,

@@ -29,24 +29,51 @@ fn refuses_to_pack() -> Result<(), Fail> {
 #[test]
 fn refuses_to_unpack() -> Result<(), Fail> {
     let mut one = [9u8; 1];
-    check_eq(unpack(FIVE, &[0x1f], &mut one), Err(Refusal::Element { place: 0 }))?;
-    check_eq(unpack(FIVE, &[0x27], &mut one), Err(Refusal::Pad { place: 0 }))?;
-    check_eq(unpack(FIVE, &[0xff], &mut one), Err(Refusal::Element { place: 0 }))?;
+    check_eq(
+        unpack(FIVE, &[0x1f], &mut one),
+        Err(Refusal::Element { place: 0 }),
+    )?;
+    check_eq(
+        unpack(FIVE, &[0x27], &mut one),
+        Err(Refusal::Pad { place: 0 }),
+    )?;
+    check_eq(
+        unpack(FIVE, &[0xff], &mut one),
+        Err(Refusal::Element { place: 0 }),
+    )?;
     check_eq(unpack(FIVE, &[], &mut one), Err(LENGTH))?;
     check_eq(one, [0])?;
     // the second element begins in byte 0, the third in byte 1
     let mut three = [9u8; 3];
-    check_eq(unpack(FIVE, &[0xe0, 0x03], &mut three), Err(Refusal::Element { place: 0 }))?;
-    check_eq(unpack(FIVE, &[0x00, 0x7c], &mut three), Err(Refusal::Element { place: 1 }))?;
-    check_eq(unpack(FIVE, &[0x00, 0x80], &mut three), Err(Refusal::Pad { place: 1 }))?;
+    check_eq(
+        unpack(FIVE, &[0xe0, 0x03], &mut three),
+        Err(Refusal::Element { place: 0 }),
+    )?;
+    check_eq(
+        unpack(FIVE, &[0x00, 0x7c], &mut three),
+        Err(Refusal::Element { place: 1 }),
+    )?;
+    check_eq(
+        unpack(FIVE, &[0x00, 0x80], &mut three),
+        Err(Refusal::Pad { place: 1 }),
+    )?;
     check_eq(three, [0, 0, 0])
 }
 
 #[test]
 fn refuses_a_key() -> Result<(), Fail> {
     let mut three = [9u8; 3];
-    check_eq(unpack_key(FIVE, &[0x00, 0x7c], &mut three), Err(Refusal::KeyElement { index: 2 }))?;
-    check_eq(unpack_key(FIVE, &[0x00, 0x80], &mut three), Err(Refusal::KeyElement { index: 3 }))?;
-    check_eq(unpack_key(FIVE, &[0x00, 0xfc], &mut three), Err(Refusal::KeyElement { index: 2 }))?;
+    check_eq(
+        unpack_key(FIVE, &[0x00, 0x7c], &mut three),
+        Err(Refusal::KeyElement { index: 2 }),
+    )?;
+    check_eq(
+        unpack_key(FIVE, &[0x00, 0x80], &mut three),
+        Err(Refusal::KeyElement { index: 3 }),
+    )?;
+    check_eq(
+        unpack_key(FIVE, &[0x00, 0xfc], &mut three),
+        Err(Refusal::KeyElement { index: 2 }),
+    )?;
     check_eq(three, [0, 0, 0])
 }

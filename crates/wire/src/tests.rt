@@ -13,7 +13,10 @@ const SMALL: Set = Set { n: 3, m: 1, r: 2 };
 fn refuses_set_and_length() -> Result<(), Fail> {
     let zeros = [0u8; 138];
     check_eq(check_vectors(FIVE, SMALL, &zeros), Ok(()))?;
-    check_eq(check_vectors(FIVE, SMALL, &zeros[1..]), Err(Refusal::SignatureLength))?;
+    check_eq(
+        check_vectors(FIVE, SMALL, &zeros[1..]),
+        Err(Refusal::SignatureLength),
+    )?;
     let bad = Set { n: 65, m: 1, r: 2 };
     check_eq(check_vectors(FIVE, bad, &zeros), Err(Refusal::BadSet))?;
     let many = Set { n: 3, m: 1, r: 270 };
@@ -41,9 +44,18 @@ fn reads_every_round() -> Result<(), Fail> {
 fn tells_the_earlier() -> Result<(), Fail> {
     let mut bytes = [0u8; 138];
     bytes[73] = 0x80;
-    check_eq(check_vectors(FIVE, SMALL, &bytes), Err(Refusal::Pad { place: 73 }))?;
+    check_eq(
+        check_vectors(FIVE, SMALL, &bytes),
+        Err(Refusal::Pad { place: 73 }),
+    )?;
     bytes[73] = 0xfc;
-    check_eq(check_vectors(FIVE, SMALL, &bytes), Err(Refusal::Element { place: 73 }))?;
+    check_eq(
+        check_vectors(FIVE, SMALL, &bytes),
+        Err(Refusal::Element { place: 73 }),
+    )?;
     bytes[69] = 0x20;
-    check_eq(check_vectors(FIVE, SMALL, &bytes), Err(Refusal::Pad { place: 69 }))
+    check_eq(
+        check_vectors(FIVE, SMALL, &bytes),
+        Err(Refusal::Pad { place: 69 }),
+    )
 }
