@@ -1,13 +1,16 @@
 -- The bytes and lanes of an input in three parts l, h and t with a filling f, by their places.
-use Prim.Native.Nat.{ℕ, zero, suc, _+_, _-_, _*_, _<_, _≤_}
+use Prim.Native.Nat.{ℕ, zero, suc, _+_, _-_, _*_, _%_, _<_, _≤_}
 use mathlib.Core.Path.{_≡_, refl, sym, ap, _∙_}
+use mathlib.Core.Logic.{⊎-elim}
 use mathlib.Core.List.{List, [], _∷_, _++_}
 use native.Mathlib.Omega.{arith}
 use native.Mathlib.Nat.{add-zero}
 use lib.ListN.{getD, length, drop, replicate, length-append, length-replicate, getD-replicate}
 use Rattle.std.proofs.shelf.Lists.{getD-at, getD-past, getD-append-left, getD-append-right, append-nil, drop-drop, drop-at, drop-append-le}
+use Rattle.std.proofs.shelf.Tests.{cases-lt, cond-below, cond-above}
 use Rattle.sha3.specs.Padding.{filling}
-use Rattle.sha3.specs.Sponge.{laneFrom}
+use Rattle.keccak.specs.State.{rows}
+use Rattle.sha3.specs.Sponge.{laneFrom, blockLane, blockRows}
 use Rattle.sha3.specs.Fed.{joint}
 
 -- ---- the filling
@@ -105,3 +108,18 @@ rest-tail l h t f at p q r =
     ∙ ap (λ (x : List ℕ). x ++ f)
     (ap (λ (n : ℕ). drop n (h ++ t)) (let e : at - length l ≡ length h + (at - length l - length h) = omega arith in e)
     ∙ past h t (at - length l - length h) ∙ sym (append-nil (drop (at - length l - length h) t))))
+
+-- ---- a block that lies in the head
+
+block-lane-same : (rate : ℕ) (p r : List ℕ) → ((j : ℕ) → 8 * j < rate → laneFrom p (8 * j) ≡ laneFrom r (8 * j)) → (j : ℕ) → blockLane rate p j ≡ blockLane rate r j
+block-lane-same rate p r same j =
+    ⊎-elim
+    (λ l. sym (cond-below (8 * j) rate (laneFrom p (8 * j)) 0 l) ∙ same j l ∙ cond-below (8 * j) rate (laneFrom r (8 * j)) 0 l)
+    (λ g. sym (cond-above (8 * j) rate (laneFrom p (8 * j)) 0 0 g refl) ∙ cond-above (8 * j) rate (laneFrom r (8 * j)) 0 0 g refl)
+    (cases-lt (8 * j) rate)
+
+pub block-in-head : (rate : ℕ) (l h t f : List ℕ) → rate % 8 ≡ 0 → length l ≡ 0 → rate ≤ length h → blockRows rate h ≡ blockRows rate (joint l h t ++ f)
+block-in-head rate l h t f whole none room =
+    let same : (j : ℕ) → 8 * j < rate → laneFrom h (8 * j) ≡ laneFrom (joint l h t ++ f) (8 * j) =
+    λ j k. ap (λ (n : ℕ). laneFrom h n) (let e : 8 * j ≡ 8 * j - length l = omega arith in e) ∙ sym (lane-in-head l h t f (8 * j) (omega arith) (omega arith)) in
+    λ i. rows (λ x y. block-lane-same rate h (joint l h t ++ f) same (5 * y + x) i)

@@ -19,9 +19,13 @@ laneFrom p k =
 abbrev pub blockLane : ℕ → List ℕ → ℕ → ℕ
 blockLane rate p j = cond (ltb (8 * j) rate) (laneFrom p (8 * j)) 0
 
+-- the block at the front of p, as the lanes of a state, row by row
+abbrev pub blockRows : ℕ → List ℕ → Rows
+blockRows rate p = rows (λ x y. blockLane rate p (5 * y + x))
+
 -- a state with the block at the front of p added
 abbrev pub withBlock : ℕ → List ℕ → Rows → Rows
-withBlock rate p s = rows (λ x y. bitXor (lane s x y) (blockLane rate p (5 * y + x)))
+withBlock rate p s = rows (λ x y. bitXor (lane s x y) (lane (blockRows rate p) x y))
 
 abbrev pub zeros : Rows
 zeros = rows (λ x y. 0)

@@ -54,7 +54,7 @@ fn input_byte(input: Input<'_>, k: usize) -> u8
 }
 
 // The lane whose bytes stand from i in a slice.
-fn slice_lane(s: &[u8], i: usize) -> u64
+pub fn slice_lane(s: &[u8], i: usize) -> u64
     requires { ⌜ i + 8 ≤ length (now s) ⌝ }
     ensures { λ r. ⌜ r ≡ laneFrom (now (s .entry)) i ⌝ }
 {

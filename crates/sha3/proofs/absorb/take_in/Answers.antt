@@ -25,6 +25,7 @@ absorb-requires c κs =
     record {
       suffix = c .pre .suffix;
       within = within (length (c .args .label .now) + length (c .args .head .now) + length (c .args .tail .now)) (c .args .rate);
+      whole = c .pre .whole;
       room = c .pre .room;
     }
 
