@@ -4,12 +4,12 @@ use mathlib.Core.Path.{_≡_, refl, sym, ap, _∙_}
 use mathlib.Core.Logic.{inl, inr, ⊎-elim}
 use mathlib.Core.Bool.{Bool}
 use native.Mathlib.Omega.{arith}
-use native.Mathlib.Nat.{div-eq-of-lt, mod-eq-of-lt, lt-of-lt-of-le, mul-assoc, eq-zero-or-pos}
+use native.Mathlib.Nat.{div-eq-of-lt, mod-eq-of-lt, lt-of-lt-of-le, lt-of-le-of-lt, mul-assoc, eq-zero-or-pos}
 use native.Mathlib.Numerals.{add-one}
 use lib.Dec.{eqb, eqb→eq}
 use lib.Pow.{pow-mono, pow-add}
 use lib.Bits.{bitXor, bitAnd, bitOr, or-self, or-zero-r, xor-add-and, shifted-even}
-use Rattle.std.proofs.shelf.Bits.{shl-shr, shr-shr, mod-pow-add, field-of, and-mask, xor-shr, and-shr, or-shr, xor-mod, and-mod, or-mod}
+use Rattle.std.proofs.shelf.Bits.{or-lt, shr-le, shl-shr, shr-shr, mod-pow-add, field-of, and-mask, xor-shr, and-shr, or-shr, xor-mod, and-mod, or-mod}
 use Rattle.std.proofs.shelf.Tests.{cases-lt}
 use Rattle.keccak.proofs.Table.{below}
 use Rattle.keccak.specs.State.{bitOf}
@@ -36,13 +36,13 @@ xor-bit a b z = ap (λ (n : ℕ). n % 2) (xor-shr a b z) ∙ xor-mod (a / 2 ^ z)
 pub and-bit : (a b z : ℕ) → bitOf (bitAnd a b) z ≡ bitOf a z * bitOf b z
 and-bit a b z = ap (λ (n : ℕ). n % 2) (and-shr a b z) ∙ and-mod (a / 2 ^ z) (b / 2 ^ z) 1 ∙ and-digit (bitOf a z) (bitOf b z) (omega arith) (omega arith)
 
--- the low 64 bits of a number, each where it was
-mod-bit : (n z : ℕ) → z < 64 → bitOf (n % 2 ^ 64) z ≡ bitOf n z
-mod-bit n z h =
-    let e : 64 ≡ 63 - z + 1 + z = omega arith in
+-- the low bits of a number, each where it was
+pub mod-bit : (w n z : ℕ) → z < w → bitOf (n % 2 ^ w) z ≡ bitOf n z
+mod-bit w n z h =
+    let e : w ≡ w - 1 - z + 1 + z = omega arith in
     ap (λ (k : ℕ). n % 2 ^ k / 2 ^ z % 2) e
-    ∙ ap (λ (m : ℕ). m % 2) (field-of n (63 - z + 1) z)
-    ∙ omega (arith, mod-pow-add (n / 2 ^ z) (63 - z) 1)
+    ∙ ap (λ (m : ℕ). m % 2) (field-of n (w - 1 - z + 1) z)
+    ∙ omega (arith, mod-pow-add (n / 2 ^ z) (w - 1 - z) 1)
 
 -- a number below 2^64 has no bit from 64 on
 no-bit : (v z : ℕ) → v < 2 ^ 64 → 64 ≤ z → bitOf v z ≡ 0
@@ -79,7 +79,7 @@ turned-low : (v j z : ℕ) → j < 64 → z < j → bitOf (bitOr ((v * 2 ^ j) % 
 turned-low v j z h k =
     let e : j ≡ j - z - 1 + 1 + z = omega arith in
     or-bit ((v * 2 ^ j) % 2 ^ 64) (v / 2 ^ (64 - j)) z
-    ∙ ap (λ (n : ℕ). bitOr n (bitOf (v / 2 ^ (64 - j)) z)) (mod-bit (v * 2 ^ j) z (omega arith) ∙ ap (λ (n : ℕ). bitOf (v * 2 ^ n) z) e ∙ shifted-low v z (j - z - 1))
+    ∙ ap (λ (n : ℕ). bitOr n (bitOf (v / 2 ^ (64 - j)) z)) (mod-bit 64 (v * 2 ^ j) z (omega arith) ∙ ap (λ (n : ℕ). bitOf (v * 2 ^ n) z) e ∙ shifted-low v z (j - z - 1))
     ∙ ap (λ (n : ℕ). n % 2) (shr-shr v (64 - j) z)
 
 turned-high : (v j z : ℕ) → v < 2 ^ 64 → j < 64 → j ≤ z → z < 64 → bitOf (bitOr ((v * 2 ^ j) % 2 ^ 64) (v / 2 ^ (64 - j))) z ≡ bitOf v (z - j)
@@ -88,7 +88,7 @@ turned-high v j z b h k l =
     or-bit ((v * 2 ^ j) % 2 ^ 64) (v / 2 ^ (64 - j)) z
     ∙ ap (λ (n : ℕ). bitOr (bitOf ((v * 2 ^ j) % 2 ^ 64) z) n) (ap (λ (n : ℕ). n % 2) (shr-shr v (64 - j) z) ∙ no-bit v (64 - j + z) b (omega arith))
     ∙ or-zero-r (bitOf ((v * 2 ^ j) % 2 ^ 64) z)
-    ∙ mod-bit (v * 2 ^ j) z l
+    ∙ mod-bit 64 (v * 2 ^ j) z l
     ∙ ap (λ (n : ℕ). bitOf (v * 2 ^ j) n) e
     ∙ shifted-high v j (z - j)
 
@@ -114,3 +114,6 @@ rotated-bit v k z h l =
     (λ high. turned-high v (k % 64) z h b high l ∙ ap (λ (n : ℕ). bitOf v n) (let e : z - k % 64 ≡ back z k = omega arith in e))
     (cases-lt z (k % 64)))
     (eq-zero-or-pos (k % 64))
+
+pub rotated-below : (v k : ℕ) → v < 2 ^ 64 → rotated v k < 2 ^ 64
+rotated-below v k h = or-lt 64 ((v * 2 ^ (k % 64)) % 2 ^ 64) (v / 2 ^ ((64 - k % 64) % 64)) (omega arith) (lt-of-le-of-lt (shr-le v ((64 - k % 64) % 64)) h)

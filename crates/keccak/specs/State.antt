@@ -28,3 +28,6 @@ rows f = five (λ y. five (λ x. f x y))
 -- each lane of a row is below 2^64, as every row of the code's type is
 abbrev pub Words : List ℕ → Type 0
 Words r = (x : ℕ) → x < 5 → getD r x 0 < 2 ^ 64
+
+abbrev pub Lanes64 : Rows → Type 0
+Lanes64 a = (y : ℕ) → y < 5 → Words (getD a y [])

@@ -2,4 +2,6 @@
 pub mod Parts
 pub mod Sponge
 pub mod Padding
+pub mod Bytes
+pub mod Strings
 pub mod Laws

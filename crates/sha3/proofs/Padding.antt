@@ -41,9 +41,8 @@ filling-bits suffix z front e f (suc (suc n)) h =
     (zeros-more (z + 1) (8 * n) (bitsOf (128 ∷ [])) ∙ zeros-more (z + 1 + 8 * n) 7 (1 ∷ []) ∙ ap (λ (k : ℕ). replicate k 0 ++ (1 ∷ [])) (let g : z + 1 + 8 * n + 7 ≡ 8 * suc (suc n) - 8 + z = omega arith in g))
 
 -- the blocks of a padded message are whole
-whole-blocks : (rate suffix : ℕ) (m : List ℕ) → 0 < rate → length (bitsOf (padded rate suffix m)) % (8 * rate) ≡ 0
-whole-blocks rate suffix m h =
-    let e : length (bitsOf (padded rate suffix m)) ≡ 8 * rate * (length m / rate + 1) =
+pub block-count : (rate suffix : ℕ) (m : List ℕ) → 0 < rate → length (bitsOf (padded rate suffix m)) ≡ 8 * rate * (length m / rate + 1)
+block-count rate suffix m h =
     omega (
       arith,
       length-bits (padded rate suffix m),
@@ -54,8 +53,10 @@ whole-blocks rate suffix m h =
       mul-add (8 * rate) (length m / rate) 1,
       mul-assoc 8 rate (length m / rate),
       mul-comm rate (length m / rate),
-    ) in
-    ap (λ (n : ℕ). n % (8 * rate)) e ∙ mul-mod-right (8 * rate) (length m / rate + 1)
+    )
+
+whole-blocks : (rate suffix : ℕ) (m : List ℕ) → 0 < rate → length (bitsOf (padded rate suffix m)) % (8 * rate) ≡ 0
+whole-blocks rate suffix m h = ap (λ (n : ℕ). n % (8 * rate)) (block-count rate suffix m h) ∙ mul-mod-right (8 * rate) (length m / rate + 1)
 
 pub padded-sha3 : (m : List ℕ) → PaddedSha3 m
 padded-sha3 m =

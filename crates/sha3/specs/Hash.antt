@@ -1,9 +1,10 @@
 -- SHA3-256 and SHAKE128 (FIPS 202, 6.1 and 6.2): their rates and suffixes, and what they give.
-use Prim.Native.Nat.{ℕ}
+use Prim.Native.Nat.{ℕ, _*_}
 use mathlib.Core.List.{List, [], _∷_, map}
 use Rattle.std.specs.Iters.{counting}
-use Rattle.sha3.specs.Padding.{PaddedBits}
+use Rattle.sha3.specs.Padding.{bitsOf, padding, PaddedBits}
 use Rattle.sha3.specs.Sponge.{taken, squeezedByte}
+use Rattle.sha3.specs.Strings.{Sponge}
 
 -- the rate in bytes, (1600 - 512) / 8, and the suffix 01 with the first bit of the padding, as a byte
 abbrev pub rateSha3 : ℕ
@@ -35,8 +36,21 @@ unfoldable pub shake128 : List ℕ → ℕ → List ℕ
 shake128 m n = map (shake128-byte m) (counting 0 n)
 
 -- what is hashed is M ‖ 01 ‖ pad10*1, and M ‖ 1111 ‖ pad10*1
+abbrev pub endingSha3 : List ℕ
+endingSha3 = 0 ∷ 1 ∷ []
+
+abbrev pub endingShake : List ℕ
+endingShake = 1 ∷ 1 ∷ 1 ∷ 1 ∷ []
+
 abbrev pub PaddedSha3 : List ℕ → Type 0
-PaddedSha3 m = PaddedBits rateSha3 suffixSha3 (0 ∷ 1 ∷ []) m
+PaddedSha3 m = PaddedBits rateSha3 suffixSha3 endingSha3 m
 
 abbrev pub PaddedShake : List ℕ → Type 0
-PaddedShake m = PaddedBits rateShake suffixShake (1 ∷ 1 ∷ 1 ∷ 1 ∷ []) m
+PaddedShake m = PaddedBits rateShake suffixShake endingShake m
+
+-- the bits of the bytes `out` are what the sponge gives for the bits of the bytes m
+abbrev pub Sha3Bits : List ℕ → List ℕ → Type 0
+Sha3Bits m out = Sponge (8 * rateSha3) (padding (8 * rateSha3) endingSha3 (bitsOf m)) (bitsOf out)
+
+abbrev pub ShakeBits : List ℕ → List ℕ → Type 0
+ShakeBits m out = Sponge (8 * rateShake) (padding (8 * rateShake) endingShake (bitsOf m)) (bitsOf out)

@@ -18,6 +18,10 @@ bitsOf (b ∷ bs) = byteBits b ++ bitsOf bs
 abbrev pub pad10*1 : ℕ → ℕ → List ℕ
 pad10*1 x m = 1 ∷ (replicate ((x - (m + 2) % x) % x) 0 ++ (1 ∷ []))
 
+-- N with the suffix of a function and the padding to blocks of r bits
+abbrev pub padding : ℕ → List ℕ → List ℕ → List ℕ
+padding r ending n = n ++ (ending ++ pad10*1 r (length n + length ending))
+
 -- the q bytes that fill the last block: the suffix with the first bit of the padding, zeros, and the last bit of the padding
 abbrev pub filling : ℕ → ℕ → List ℕ
 filling suffix zero = []
@@ -30,5 +34,5 @@ padded rate suffix m = m ++ filling suffix (rate - length m % rate)
 
 -- The bits of the padded bytes are those of the message, the suffix and the padding, and they fill blocks of r bits.
 pub record PaddedBits (rate suffix : ℕ) (ending m : List ℕ) : Type 0 where
-  pub bits : bitsOf (padded rate suffix m) ≡ bitsOf m ++ (ending ++ pad10*1 (8 * rate) (length (bitsOf m) + length ending))
+  pub bits : bitsOf (padded rate suffix m) ≡ padding (8 * rate) ending (bitsOf m)
   pub blocks : length (bitsOf (padded rate suffix m)) % (8 * rate) ≡ 0

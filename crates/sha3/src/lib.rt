@@ -7,7 +7,7 @@ ghost use mathlib.Core.List.{List, [], _∷_, _++_};
 ghost use Prim.Native.Nat.{ℕ, _≤_};
 ghost use lib.ListN.{length};
 ghost use Rattle.sha3.specs.Fed.{joint};
-ghost use Rattle.sha3.specs.Hash.{sha3-256, shake128 as shake, PaddedSha3, PaddedShake};
+ghost use Rattle.sha3.specs.Hash.{sha3-256, shake128 as shake, PaddedSha3, PaddedShake, Sha3Bits, ShakeBits};
 use crate::absorb::take_in;
 use crate::squeeze::squeeze;
 
@@ -48,6 +48,7 @@ fn shake128_joint<'x>(label: &'x [u8], seed: &'x [u8], out: &mut [u8])
 pub fn sha3_256(message: &[u8]) -> [u8; 32]
     ensures digest { λ r. ⌜ r ≡ sha3-256 (now (message .entry)) ⌝ }
     ensures padding { λ _. ⌜ PaddedSha3 (now (message .entry)) ⌝ }
+    ensures bits { λ r. ⌜ Sha3Bits (now (message .entry)) r ⌝ }
 {
     sha3_256_joint(&[], message, &[])
 }
@@ -63,6 +64,7 @@ pub fn sha3_256_parts(label: u8, head: &[u8], tail: &[u8]) -> [u8; 32]
 pub fn shake128(message: &[u8], out: &mut [u8])
     ensures stream { λ _. ⌜ now (out .exit) ≡ shake (now (message .entry)) (length (now (out .entry))) ⌝ }
     ensures padding { λ _. ⌜ PaddedShake (now (message .entry)) ⌝ }
+    ensures bits { λ _. ⌜ ShakeBits (now (message .entry)) (now (out .exit)) ⌝ }
 {
     shake128_joint(&[], message, out);
 }
