@@ -1,7 +1,7 @@
 -- The steps on lanes, read bit by bit.
-use Prim.Native.Nat.{ℕ, zero, suc, _+_, _-_, _*_, _/_, _%_, _^_, _<_, _≤_}
-use mathlib.Core.Path.{_≡_, refl, sym, ap, ap₂, _∙_}
-use mathlib.Core.List.{List, [], _∷_}
+use Prim.Native.Nat.{ℕ, zero, suc, _+_, _*_, _%_, _^_, _<_}
+use mathlib.Core.Path.{_≡_, refl, ap, ap₂, _∙_}
+use mathlib.Core.List.{List, []}
 use native.Mathlib.Omega.{arith}
 use mathlib.Core.Logic.{_⊎_, inl, inr}
 use lib.ListN.{getD}
@@ -9,7 +9,7 @@ use lib.Bits.{bitXor, bitAnd}
 use Rattle.keccak.specs.State.{Rows, lane, bitOf, bit, five, rows, Words}
 use Rattle.keccak.specs.Lanes.{parityC, effectD, rotated, thetaOf, rhoOf, offset, flipped, chiRow, chiOf}
 use Rattle.keccak.specs.Constants.{laneRC, bitRC, iotaOf}
-use Rattle.keccak.specs.Bits.{IotaBits, _⊕_, back, bitC, bitD, ThetaBits, RhoBits, ChiBits}
+use Rattle.keccak.specs.Bits.{IotaBits, _⊕_, back, bitC, ThetaBits, RhoBits, ChiBits}
 use Rattle.keccak.proofs.Bits.{xor-bit, and-bit, flipped-bit, rotated-bit}
 
 pub five-at : {A : Type 0} (f : ℕ → A) (d : A) (x : ℕ) → x < 5 → getD (five f) x d ≡ f x

@@ -1,10 +1,9 @@
 -- The bits of a sum, a product, a complement and a turned lane.
 use Prim.Native.Nat.{ℕ, zero, suc, _+_, _-_, _*_, _/_, _%_, _^_, _<_, _≤_}
 use mathlib.Core.Path.{_≡_, refl, sym, ap, _∙_}
-use mathlib.Core.Logic.{inl, inr, ⊎-elim}
-use mathlib.Core.Bool.{Bool}
+use mathlib.Core.Logic.{⊎-elim}
 use native.Mathlib.Omega.{arith}
-use native.Mathlib.Nat.{div-eq-of-lt, mod-eq-of-lt, lt-of-lt-of-le, lt-of-le-of-lt, mul-assoc, eq-zero-or-pos}
+use native.Mathlib.Nat.{div-eq-of-lt, lt-of-lt-of-le, lt-of-le-of-lt, mul-assoc, eq-zero-or-pos}
 use native.Mathlib.Numerals.{add-one}
 use lib.Dec.{eqb, eqb→eq}
 use lib.Pow.{pow-mono, pow-add}

@@ -1,7 +1,6 @@
 -- The table of round constants is right at each of its entries, and at each of their bits, by tests that antt computes.
 use Prim.Native.Nat.{ℕ, _^_, _<_}
 use mathlib.Core.Path.{_≡_, sym, ap, subst, _∙_}
-use mathlib.Core.Bool.{Bool}
 use mathlib.Core.List.{List, [], _∷_}
 use lib.Dec.{eqb, eqb→eq, ltb, ltb→lt}
 use lib.ListN.{getD}

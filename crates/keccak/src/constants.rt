@@ -1,6 +1,5 @@
 //! The step ι, and the constants of the rounds.
 ghost use mathlib.Core.Path.{_≡_};
-ghost use mathlib.Core.List.{List, []};
 ghost use Prim.Native.Nat.{ℕ, _<_};
 ghost use Rattle.keccak.specs.State.{bitOf};
 ghost use Rattle.keccak.specs.Constants.{laneRC, bitRC, iotaRow, iotaOf};
@@ -48,7 +47,7 @@ fn iota_row(row: [u64; 5], constant: u64) -> [u64; 5]
     [row[0] ^ constant, row[1], row[2], row[3], row[4]]
 }
 
-/// ι: the first lane has the constant of round i added.
+/// ι: the first lane has the constant of round i added. The rounds are 0 to 23.
 pub fn iota(a: State, i: usize) -> State
     requires { ⌜ i < 24 ⌝ }
     ensures lanes { λ r. ⌜ r ≡ iotaOf a i ⌝ }

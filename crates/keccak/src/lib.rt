@@ -4,7 +4,7 @@
 //!
 //! Each step is stated twice: on whole lanes, as it is computed, and on the bits A[x, y, z], as the standard has it.
 ghost use mathlib.Core.Path.{_≡_};
-ghost use Prim.Native.Nat.{ℕ, _<_};
+ghost use Prim.Native.Nat.{_<_};
 ghost use Rattle.keccak.specs.Bits.{RoundBits, RoundsBits};
 ghost use Rattle.keccak.specs.Rounds.{roundOf, keccakF};
 pub use crate::constants::iota;

@@ -1,8 +1,7 @@
 //! The steps θ, ρ, π and χ, which every round makes alike.
 ghost use mathlib.Core.Path.{_≡_};
-ghost use mathlib.Core.List.{List, []};
-ghost use Prim.Native.Nat.{ℕ, _+_, _-_, _*_, _/_, _%_, _^_, _<_, _≤_};
-ghost use lib.ListN.{length, getD};
+ghost use Prim.Native.Nat.{ℕ, _^_, _<_};
+ghost use lib.ListN.{getD};
 ghost use lib.Bits.{bitXor};
 ghost use Rattle.keccak.specs.State.{five, Words};
 ghost use Rattle.keccak.specs.Lanes.{parityC, effectD, rotated, thetaOf, rhoOf, piOf, chiRow, chiOf};

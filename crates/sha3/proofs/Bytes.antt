@@ -1,5 +1,5 @@
 -- Strings of bytes: each element of the padded message is below 256, and its bits stand in the string of bits.
-use Prim.Native.Nat.{ℕ, zero, suc, _+_, _-_, _*_, _/_, _%_, _^_, _<_, _≤_}
+use Prim.Native.Nat.{ℕ, zero, suc, _+_, _-_, _*_, _/_, _%_, _^_, _<_}
 use mathlib.Core.Path.{_≡_, refl, sym, ap, subst, _∙_}
 use mathlib.Core.Logic.{⊎-elim}
 use mathlib.Core.List.{List, [], _∷_, _++_}
@@ -8,7 +8,7 @@ use native.Mathlib.Nat.{zero-div, add-zero}
 use lib.ListN.{length, getD, drop, replicate}
 use Rattle.std.proofs.shelf.Bits.{shr-shr}
 use Rattle.std.proofs.shelf.Counted.{getD-map-counting}
-use Rattle.std.proofs.shelf.Lists.{getD-append-left, getD-append-right, getD-drop, getD-past, getD-replicate, length-replicate}
+use Rattle.std.proofs.shelf.Lists.{getD-append-left, getD-append-right, getD-drop}
 use Rattle.std.proofs.shelf.Tests.{cases-lt}
 use Rattle.keccak.specs.State.{bitOf}
 use Rattle.keccak.proofs.Bits.{mod-bit}

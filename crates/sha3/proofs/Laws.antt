@@ -1,12 +1,11 @@
 -- What a caller may take from the hashes: their lengths, and that each byte is one.
-use Prim.Native.Nat.{ℕ, _%_, _<_}
-use mathlib.Core.Path.{_≡_, refl, _∙_}
+use Prim.Native.Nat.{ℕ, _<_}
+use mathlib.Core.Path.{_≡_, refl}
 use mathlib.Core.List.{List, map}
 use native.Mathlib.Omega.{arith}
 use lib.ListN.{length, getD}
 use Rattle.std.specs.Iters.{counting}
 use Rattle.std.proofs.shelf.Counted.{length-map-counting, getD-map-counting}
-use Rattle.std.proofs.shelf.Bits.{mod-below}
 use Rattle.sha3.specs.Hash.{sha3-256, sha3-256-byte, shake128, shake128-byte}
 
 pub sha3-256-by-bytes : (m : List ℕ) → sha3-256 m ≡ map (sha3-256-byte m) (counting 0 32)

@@ -1,5 +1,5 @@
 -- The bits of a padded message.
-use Prim.Native.Nat.{ℕ, zero, suc, _+_, _-_, _*_, _/_, _%_, _^_, _<_, _≤_}
+use Prim.Native.Nat.{ℕ, zero, suc, _+_, _-_, _*_, _/_, _%_, _<_}
 use mathlib.Core.Path.{_≡_, refl, sym, ap, _∙_}
 use mathlib.Core.List.{List, [], _∷_, _++_, append-assoc}
 use native.Mathlib.Omega.{arith}
@@ -7,7 +7,7 @@ use native.Mathlib.Nat.{mul-add, mul-assoc, mul-comm, mul-mod-right}
 use lib.ListN.{length, replicate, length-append}
 use Rattle.std.proofs.shelf.Bits.{mod-below, div-add-mod'}
 use Rattle.std.proofs.shelf.Lists.{append-nil, replicate-append-replicate}
-use Rattle.sha3.specs.Padding.{byteBits, bitsOf, pad10*1, filling, padded, PaddedBits}
+use Rattle.sha3.specs.Padding.{byteBits, bitsOf, filling, padded}
 use Rattle.sha3.specs.Hash.{PaddedSha3, PaddedShake}
 use Rattle.sha3.proofs.Parts.{length-filling}
 

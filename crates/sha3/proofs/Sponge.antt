@@ -5,7 +5,6 @@ use mathlib.Core.Logic.{⊎-elim}
 use mathlib.Core.List.{List, [], _∷_, _++_}
 use native.Mathlib.Numerals.{add-one}
 use native.Mathlib.Omega.{arith}
-use native.Mathlib.Nat.{add-mul}
 use lib.ListN.{getD, length, drop, take}
 use borrow.Rule.Slice.PartMut.{putMid, postOf}
 use Rattle.std.proofs.shelf.Bits.{div-mul-add, mod-mul-add}

@@ -1,5 +1,5 @@
 -- The sponge on bytes and lanes, read as the standard's sponge on strings of bits.
-use Prim.Native.Nat.{ℕ, zero, suc, _+_, _-_, _*_, _/_, _%_, _^_, _<_, _≤_}
+use Prim.Native.Nat.{ℕ, zero, suc, _+_, _*_, _/_, _%_, _^_, _<_}
 use mathlib.Core.Path.{_≡_, refl, sym, ap, subst, _∙_}
 use mathlib.Core.Logic.{⊎-elim}
 use mathlib.Core.Bool.{cond}
@@ -13,9 +13,8 @@ use Rattle.std.specs.Iters.{counting}
 use Rattle.std.proofs.shelf.Bits.{xor-lt, div-add-mod'}
 use Rattle.std.proofs.shelf.Counted.{length-map-counting, getD-map-counting}
 use Rattle.std.proofs.shelf.Tests.{cases-lt, cond-below, cond-above, cond-both}
-use Rattle.keccak.specs.State.{Rows, lane, bitOf, rows, Lanes64}
+use Rattle.keccak.specs.State.{Rows, lane, bitOf, Lanes64}
 use Rattle.keccak.specs.Bits.{_⊕_, RoundsBits}
-use Rattle.keccak.specs.Rounds.{keccakF}
 use Rattle.keccak.proofs.Bits.{xor-bit}
 use Rattle.keccak.proofs.BitByBit.{rows-at}
 use Rattle.keccak.proofs.Whole.{rows-below, keccakF-below, keccakF-bits}

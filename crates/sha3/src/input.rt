@@ -1,6 +1,6 @@
 //! A padded message in parts, read byte by byte and lane by lane.
 ghost use mathlib.Core.Path.{_≡_};
-ghost use Prim.Native.Nat.{ℕ, _+_, _*_, _<_, _≤_};
+ghost use Prim.Native.Nat.{_+_, _<_, _≤_};
 ghost use lib.ListN.{length, getD, drop};
 ghost use Rattle.sha3.specs.Padding.{filling};
 ghost use Rattle.sha3.specs.Sponge.{laneFrom};

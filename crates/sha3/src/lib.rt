@@ -3,8 +3,8 @@
 //!     let digest = sha3::sha3_256(b"abc");
 //!     sha3::shake128(seed, &mut stream);
 ghost use mathlib.Core.Path.{_≡_};
-ghost use mathlib.Core.List.{List, [], _∷_, _++_};
-ghost use Prim.Native.Nat.{ℕ, _≤_};
+ghost use mathlib.Core.List.{[], _∷_, _++_};
+ghost use Prim.Native.Nat.{_≤_};
 ghost use lib.ListN.{length};
 ghost use Rattle.sha3.specs.Fed.{joint};
 ghost use Rattle.sha3.specs.Hash.{sha3-256, shake128 as shake, PaddedSha3, PaddedShake, Sha3Bits, ShakeBits};

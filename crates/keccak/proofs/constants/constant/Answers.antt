@@ -1,5 +1,4 @@
 -- The constant is the table's.
-use borrow.Author.Needs.{needs}
 use Rattle.keccak.proofs.RoundConstants.{table-lane, table-bit}
 use Rattle.keccak.proofs.constants.constant.Needs as need
 

@@ -1,10 +1,10 @@
 -- The lanes are those of ι, and so the bits are.
-use Prim.Native.Nat.{ℕ, _<_}
+use Prim.Native.Nat.{ℕ}
 use mathlib.Core.Path.{_≡_, sym, ap, _∙_, subst}
 use mathlib.Core.List.{List, [], _∷_}
 use lib.ListN.{getD}
 use Rattle.keccak.specs.State.{Rows, bitOf}
-use Rattle.keccak.specs.Constants.{laneRC, bitRC, iotaRow, iotaOf}
+use Rattle.keccak.specs.Constants.{iotaRow, iotaOf}
 use Rattle.keccak.specs.Bits.{IotaBits}
 use Rattle.keccak.proofs.BitByBit.{iota-bits}
 use Rattle.keccak.proofs.constants.iota.Needs as need

@@ -1,10 +1,9 @@
 -- The lanes are those of χ, and so the bits are.
-use mathlib.Core.Path.{_≡_, refl, sym, ap₂, _∙_, subst}
-use mathlib.Core.List.{List, _∷_, []}
-use Prim.Native.Nat.{ℕ}
+use mathlib.Core.Path.{_≡_, sym, subst}
+use mathlib.Core.List.{_∷_, []}
 use lib.ListN.{getD}
 use borrow.Author.Needs.{needs}
-use Rattle.keccak.specs.State.{Rows, five, Words}
+use Rattle.keccak.specs.State.{Rows, Words}
 use Rattle.keccak.specs.Lanes.{chiOf}
 use Rattle.keccak.specs.Bits.{ChiBits}
 use Rattle.keccak.proofs.BitByBit.{each, chi-bits}

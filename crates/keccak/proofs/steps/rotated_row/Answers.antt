@@ -1,5 +1,5 @@
 -- Each lane that the function reads is a number of 64 bits.
-use Prim.Native.Nat.{ℕ, _<_, _^_}
+use Prim.Native.Nat.{_<_, _^_}
 use lib.ListN.{getD}
 use borrow.Author.Needs.{needs}
 use Rattle.keccak.proofs.BitByBit.{each}

@@ -1,7 +1,7 @@
 -- The eight places hold the lane's bytes, and those before them are as they were.
 use mathlib.Core.Path.{_≡_, ap, _∙_}
 use mathlib.Core.List.{List}
-use Prim.Native.Nat.{ℕ, _+_, _-_, _<_}
+use Prim.Native.Nat.{ℕ, _+_, _-_}
 use native.Mathlib.Omega.{arith}
 use lib.ListN.{getD, length}
 use Rattle.sha3.proofs.Sponge.{put-before, put-here, lane-byte}

@@ -1,7 +1,5 @@
-use mathlib.Core.Path.{_≡_, refl, _∙_}
-use Prim.Native.Nat.{ℕ, _+_, _*_, _<_}
+use mathlib.Core.Path.{refl, _∙_}
 use native.Mathlib.Omega.{arith}
-use borrow.Author.Needs.{needs}
 use Rattle.sha3.proofs.Sponge.{lanes-more}
 use Rattle.sha3.proofs.squeeze.put_lanes.Needs as need
 

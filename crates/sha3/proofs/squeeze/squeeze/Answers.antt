@@ -1,13 +1,11 @@
 -- Each turn writes one block; what is left past the last of them is at most a block.
-use Prim.Native.Nat.{ℕ, _+_, _-_, _*_, _/_, _%_, _<_, _≤_}
+use Prim.Native.Nat.{ℕ, _+_, _-_, _*_, _/_, _<_, _≤_}
 use mathlib.Core.Path.{_≡_, refl, sym, ap, subst, _∙_}
 use native.Mathlib.Omega.{arith}
 use native.Mathlib.Nat.{add-mul}
-use borrow.Author.Needs.{needs}
-use lib.ListN.{length, getD}
+use lib.ListN.{length}
 use Rattle.std.proofs.shelf.Bits.{mul-le, div-add-mod', mod-below}
 use Rattle.std.proofs.shelf.Counted.{fill-by-all}
-use Rattle.keccak.specs.State.{Rows}
 use Rattle.keccak.specs.Rounds.{keccakF}
 use Rattle.sha3.specs.Sponge.{later, squeezedByte}
 use Rattle.sha3.proofs.Sponge.{later-none, later-more, blocks-more}
