@@ -13,7 +13,13 @@ pub struct Keccak;
 pub impl Suite for Keccak as KeccakSuite {
     ghost meaning = { λ _. keccakMeaning };
 
-    fn digest(&self, label: u8, head: &[u8], tail: &[u8], out: &mut [u8; 32]) -> Result<(), Refusal> {
+    fn digest(
+        &self,
+        label: u8,
+        head: &[u8],
+        tail: &[u8],
+        out: &mut [u8; 32],
+    ) -> Result<(), Refusal> {
         if head.len() > DIGEST_LIMIT || tail.len() > DIGEST_LIMIT - head.len() {
             out.fill(0);
             return Err(Refusal::SuiteLimit { label });

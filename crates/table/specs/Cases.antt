@@ -3,12 +3,15 @@ use mathlib.Core.Path.{_≡_}
 use mathlib.Core.List.{[], _∷_}
 use Prim.Native.Nat.{ℕ}
 use Rattle.std.specs.declared.result.Result.the-variants.{Ok, Err}
-use Rattle.refusal.specs.declared.Refusal.the-variants.{Element, Pad}
+use lib.ListN.{replicate}
+use Rattle.refusal.specs.declared.Refusal.the-variants.{Element, Pad, TooFewElements}
 use Rattle.field.specs.Coding.{reads}
 use Rattle.gf31.specs.Modulo.{coding31}
 use Rattle.packing.specs.Packed.{packOf, unpackOf}
 use Rattle.params.specs.declared.Set.{Set}
 use Rattle.params.specs.Sizes.{coefficientsOf, keyLength, signatureLength}
+use Rattle.suite.specs.Drawn.{drawn}
+use Rattle.suite_bench.specs.Sums.{benchMeaning}
 
 -- MQDSS-31-64
 abbrev pub large : Set
@@ -25,3 +28,5 @@ pub record Cases : Type 0 where
   pub drawing : reads (coefficientsOf large) ≡ 154432
   pub key : keyLength (coding31 .bits) large ≡ 72
   pub signature : signatureLength (coding31 .bits) large ≡ 40952
+  -- label 8 and a seed of F7 in the bench suite give nothing but 31, so that no element can be drawn
+  pub barren : drawn coding31 benchMeaning 8 (replicate 32 0xF7) 1 ≡ Err (TooFewElements 8)

@@ -10,4 +10,5 @@ returns c = record {
   drawing = refl;
   key = refl;
   signature = refl;
+  barren = refl;
 }

@@ -1,24 +1,5 @@
-use mathlib.Core.List.{List, _∷_}
-use Prim.Native.Nat.{ℕ, _<_}
-use mathlib.Core.Logic.{⊎-elim}
-use native.Mathlib.Omega.{arith}
-use lib.ListN.{getD}
-use Rattle.std.proofs.shelf.Lists.{getD-past}
-use Rattle.std.proofs.shelf.Tests.{cases-lt}
-use Rattle.sha3.specs.Hash.{sha3-256}
-use Rattle.sha3.proofs.Laws.{sha3-256-length, sha3-256-byte-below, sha3-256-at, shake128-byte-below}
+use Rattle.suite_keccak.proofs.Laws.{keccak-lawful}
 use Rattle.suite_keccak.proofs.KeccakSuite.the-impl.Needs as need
 
-below : (m : List ℕ) (k : ℕ) → getD (sha3-256 m) k 0 < 256
-below m k =
-    ⊎-elim
-        (λ (h : k < 32). omega (arith, sha3-256-at m k h, sha3-256-byte-below m k))
-        (λ h. omega (arith, getD-past (sha3-256 m) k 0 (omega (arith, sha3-256-length m))))
-        (cases-lt k 32)
-
 pub lawful-law : need.lawful-law
-lawful-law = λ s. record {
-  digest-long = λ l x. sha3-256-length (l ∷ x);
-  digest-byte = λ l x k. below (l ∷ x) k;
-  stream-byte = λ l x k. shake128-byte-below (l ∷ x) k;
-}
+lawful-law = λ s. keccak-lawful
