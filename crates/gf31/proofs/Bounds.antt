@@ -1,14 +1,15 @@
 -- How large products of codes get, and the sum of an equation.
-use mathlib.Core.Path.{_≡_, refl, sym, ap, _∙_, subst}
+use mathlib.Core.Path.{_≡_, refl, sym, ap, _∙_}
 use mathlib.Core.List.{List, [], _∷_, _++_, map}
 use Prim.Native.Nat.{ℕ, zero, suc, _+_, _*_, _<_, _≤_, zero-le, suc-le-suc}
-use native.Mathlib.Nat.{add-assoc, zero-add, add-mul, mul-add}
+use native.Mathlib.Nat.{add-assoc, zero-add, mul-add}
 use native.Mathlib.Omega.{arith}
-use lib.ListN.{length, getD, drop, length-append, length-drop}
+use lib.ListN.{length, getD, drop, length-drop}
 use Rattle.std.proofs.shelf.Bits.{mul-le}
-use Rattle.std.proofs.shelf.Lists.{length-map, getD-drop}
+use Rattle.std.proofs.shelf.Lists.{getD-drop}
 use Rattle.field.specs.Codes.{Codes}
 use Rattle.field.specs.Terms.{pairs, monomials}
+use Rattle.field.proofs.Pairs.{length-pairs}
 use Rattle.gf31.specs.Whole.{whole, At-monomials}
 
 pub pair-few : (a b : ℕ) → a < 31 → b < 31 → a * b ≤ 900
@@ -55,16 +56,6 @@ pairs-small [] e = λ k l. absurd (omega arith)
 pairs-small (x ∷ xs) e =
     codes-append 901 (map (λ y. x * y) (x ∷ xs)) (pairs _*_ xs) (row-small x (x ∷ xs) (e zero (suc-le-suc zero-le)) e) (pairs-small xs (λ j h. e (suc j) (suc-le-suc h)))
 
-next-square : (n : ℕ) → (n + 1) * (n + 2) ≡ n * (n + 1) + 2 * (n + 1)
-next-square n = omega (arith, add-mul n 1 (n + 2), mul-add n (n + 1) 1, mul-add n n 2, mul-add n n 1)
-
-length-pairs : (xs : List ℕ) → 2 * length (pairs _*_ xs) ≡ length xs * (length xs + 1)
-length-pairs [] = refl
-length-pairs (x ∷ xs) =
-    let e : length (pairs _*_ (x ∷ xs)) ≡ suc (length xs) + length (pairs _*_ xs) = length-append (map (λ y. x * y) (x ∷ xs)) (pairs _*_ xs) ∙ ap (λ (n : ℕ). n + length (pairs _*_ xs)) (length-map (x ∷ xs) (λ y. x * y)) in
-    let k : suc (length xs) * (suc (length xs) + 1) ≡ (length xs + 1) * (length xs + 2) = (let p : suc (length xs) ≡ length xs + 1 = omega arith in let q : suc (length xs) + 1 ≡ length xs + 2 = omega arith in cc) in
-    omega (arith, e, k, next-square (length xs), length-pairs xs)
-
 pub at-monomials : (cs ts : List ℕ) (r : ℕ) → r ≡ whole cs ts → Codes 31 cs → At-monomials ts r
 at-monomials cs ts r e hc x hx short is =
     let ps : List ℕ = pairs _*_ x in
@@ -74,6 +65,6 @@ at-monomials cs ts r e hc x hx short is =
       e ∙ ap (whole cs) is ∙ whole-append cs ps x,
       bounded 900 cs ps hc (pairs-small x hx),
       bounded 30 (drop (length ps) cs) x (codes-drop 31 cs (length ps) hc) hx,
-      length-pairs x,
+      length-pairs _*_ x,
       mul-le (length x) (length x + 1) 64 65 short few,
     )
