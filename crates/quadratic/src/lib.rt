@@ -8,6 +8,8 @@ ghost use Rattle.field.specs.Codes.{Codes};
 ghost use Rattle.algebra.specs.Quad.{size as sizeOf, F as mapOf, G as polarOf};
 
 mod terms;
+#[cfg(test)]
+mod tests;
 mod wiped;
 
 use field::Field;
