@@ -26,3 +26,8 @@ pub record Field (q : ℕ) (o : Ops ℕ) (inv : ℕ → ℕ) : Type 0 where
 -- every entry is a code
 abbrev pub Codes : ℕ → List ℕ → Type 0
 Codes q xs = (k : ℕ) → k < length xs → getD xs k 0 < q
+
+-- a vector of n codes
+pub record Vector (q n : ℕ) (xs : List ℕ) : Type 0 where
+  pub long : length xs ≡ n
+  pub codes : Codes q xs

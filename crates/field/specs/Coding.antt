@@ -1,4 +1,4 @@
--- A field by its codes, with how they lie in bytes: which bytes of a stream give an element, and how elements pack.
+-- A field by its codes: how they lie in bytes, which bytes of a stream give an element, and the terms that its sums are made of.
 use mathlib.Core.List.{List, map}
 use Prim.Native.Nat.{ℕ, _+_, _/_, _%_, _^_, _≤_}
 use lib.Dec.{ltb}
@@ -12,6 +12,9 @@ pub record Coding : Type 0 where
   pub bits : ℕ
   pub ops : Ops ℕ
   pub inv : ℕ → ℕ
+  -- the element that a term stands for; a term is below the limit, and has no need to be a code
+  pub stands : ℕ → ℕ
+  pub limit : ℕ
 
 -- what a field shows; at most 31 codes, of at most five bits, so that buffers sized for these hold every field's vectors
 pub record Coded (K : Coding) : Type 0 where

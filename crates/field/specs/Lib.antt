@@ -1,3 +1,4 @@
 pub mod Ring
 pub mod Codes
+pub mod Terms
 pub mod Coding
