@@ -2,6 +2,9 @@
 //!
 //!     let digest = sha3::sha3_256(b"abc");
 //!     sha3::shake128(seed, &mut stream);
+//!
+//! What a hash reads and writes follows the lengths of its parts alone, as the code is written; no contract speaks of time.
+//! Nothing clears the states of a call from the stack.
 ghost use mathlib.Core.Path.{_≡_};
 ghost use mathlib.Core.List.{[], _∷_, _++_};
 ghost use Prim.Native.Nat.{_≤_};
