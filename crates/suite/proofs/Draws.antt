@@ -49,7 +49,7 @@ module _ (K : Coding) (M : Meaning) (label : ℕ) (seed : List ℕ) (n room : �
   in-room : reads n ≤ room → out ≡ andThen (unless (leb (reads n) 262144) (SuiteLimit label)) (λ _. drawn K M label seed n)
   in-room h = rw (le-leb (reads n) room h)
 
-  limited : reads n ≤ room → reads n ≤ 262144 → out ≡ drawn K M label seed n
+  pub limited : reads n ≤ room → reads n ≤ 262144 → out ≡ drawn K M label seed n
   limited h l = in-room h ∙ rw (le-leb (reads n) 262144 l)
 
   -- a stream that is refused

@@ -1,0 +1,2 @@
+pub mod Public
+pub mod Checked
