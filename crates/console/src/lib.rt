@@ -1,4 +1,6 @@
-// What the program `mqdss` does and says, command by command.
+// What the program `mqdss` does, command by command.
+pub mod ask;
 pub mod command;
 pub mod files;
+pub mod keys;
 pub mod scan;

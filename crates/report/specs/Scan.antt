@@ -14,8 +14,8 @@ use Rattle.params.specs.declared.Set.{Set}
 use Rattle.wire.specs.Layout.{part, vectorsOf}
 use Rattle.wire.specs.Located.{Found}
 use Rattle.gf31.specs.Modulo.{coding31}
-use Rattle.console.specs.declared.scan.Report.{Report}
-use Rattle.console.specs.declared.scan.Spot.{Spot}
+use Rattle.report.specs.declared.scan.Report.{Report}
+use Rattle.report.specs.declared.scan.Spot.{Spot}
 
 -- the vector that holds the byte, and what is wrong with it
 pub record Spots (q b : ℕ) (s : Set) (sig : List ℕ) (place : ℕ) (x : Spot) : Type 0 where
