@@ -7,7 +7,7 @@ use Rattle.algebra.specs.Quad.{size}
 use Rattle.algebra.proofs.Sizes.{row-few}
 use Rattle.quadratic.proofs.Parts.{front-length, front-codes}
 use Rattle.quadratic.proofs.ByTerms.{polar-by-sums, sums-of}
-use Rattle.quadratic.proofs.evaluate_polar_by.Needs as need
+use Rattle.quadratic.proofs.evaluate_polar_in.Needs as need
 
 pub add-count : need.add-count
 add-count g c = omega (arith, row-few (length (c .args .x .now)) (c .pre .short), c .fill-crosses-count .ensures .count)
