@@ -57,6 +57,7 @@ module _ {q : ℕ} {o : Ops ℕ} {inv : ℕ → ℕ} (K : Field q o inv) where
   }
 
   sum-code : (n : ℕ) (f : ℕ → Below q) → sumTo o n (λ i. f i .0) ≡ sumTo ring n f .0
+  unfolding sumTo
   sum-code zero f = refl
   sum-code (suc n) f = ap (λ t. o .add t (f n .0)) (sum-code n f)
 

@@ -7,8 +7,17 @@ use Rattle.algebra.specs.Quad.{sumTo, row, eqn}
 use Rattle.algebra.proofs.Group.{semi, diffs, close, same, given, is-diff, diff, diff-add}
 
 module _ {A : Type 0} (o : Ops A) where
+  pub sum-zero : (f : ℕ → A) → sumTo o 0 f ≡ o .nil
+  unfolding sumTo
+  sum-zero f = refl
+
+  pub sum-next : (n : ℕ) (f : ℕ → A) → sumTo o (suc n) f ≡ o .add (sumTo o n f) (f n)
+  unfolding sumTo
+  sum-next n f = refl
+
   -- only entries below n count
   pub sum-cong : (n : ℕ) (f g : ℕ → A) → ((k : ℕ) → k < n → f k ≡ g k) → sumTo o n f ≡ sumTo o n g
+  unfolding sumTo
   sum-cong zero f g h = refl
   sum-cong (suc n) f g h = ap₂ (o .add) (sum-cong n f g (λ k l. h k (omega arith))) (h n (omega arith))
 
@@ -26,10 +35,12 @@ module _ {A : Type 0} {o : Ops A} (L : Laws o) where
   infixl 70 _⊗_
   infix 80 ⊖_
   pub sum-add : (n : ℕ) (f g : ℕ → A) → sumTo o n (λ i. f i ⊕ g i) ≡ sumTo o n f ⊕ sumTo o n g
+  unfolding sumTo
   sum-add zero f g = simp (semi, L)
   sum-add (suc n) f g = ap (λ t. t ⊕ (f n ⊕ g n)) (sum-add n f g) ∙ simp (semi, L)
 
   pub sum-mul : (n : ℕ) (a : A) (f : ℕ → A) → sumTo o n (λ i. a ⊗ f i) ≡ a ⊗ sumTo o n f
+  unfolding sumTo
   sum-mul zero a f = simp (semi, L)
   sum-mul (suc n) a f = ap (λ t. t ⊕ a ⊗ f n) (sum-mul n a f) ∙ simp (semi, L)
 

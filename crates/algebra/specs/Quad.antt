@@ -1,23 +1,23 @@
 -- The quadratic map F and its polar form G over any ring, by the entries of their vectors. Assumes nothing.
 use mathlib.Core.List.{List, map}
-use Prim.Native.Nat.{ℕ, zero, suc, _+_, _-_, _*_}
+use Prim.Native.Nat.{ℕ, zero, suc, _+_, _-_, _*_, _/_}
 use lib.ListN.{getD}
 use Rattle.std.specs.Iters.{counting}
 use Rattle.field.specs.Ring.{Ops, sub}
 
 -- f(0) + .. + f(n - 1)
-abbrev pub sumTo : {A : Type 0} → Ops A → ℕ → (ℕ → A) → A
+unfoldable pub sumTo : {A : Type 0} → Ops A → ℕ → (ℕ → A) → A
 sumTo o zero f = o .nil
 sumTo o (suc n) f = o .add (sumTo o n f) (f n)
 
 -- where the coefficients a(i,i), a(i,i+1), .. of row i begin, in n variables
-abbrev pub row : ℕ → ℕ → ℕ
+unfoldable pub row : ℕ → ℕ → ℕ
 row n zero = 0
 row n (suc i) = row n i + (n - i)
 
--- how many coefficients an equation has: the rows, and then b(0), .., b(n - 1)
+-- how many coefficients an equation has: one for each pair of variables, and b(0), .., b(n - 1)
 abbrev pub size : ℕ → ℕ
-size n = row n n + n
+size n = n * (n + 1) / 2 + n
 
 -- an equation with the coefficients c: the sum of a(i,j)·x(i)·x(j), j from i upward, and of b(i)·x(i)
 unfoldable pub eqn : {A : Type 0} → Ops A → ℕ → (ℕ → A) → (ℕ → A) → A

@@ -18,7 +18,7 @@ pair-few a b h k = mul-le a b 30 30 (omega arith) (omega arith)
 pub product-few : (a b : List ℕ) (i : ℕ) → i < length a → i < length b → Codes 31 a → Codes 1801 b → getD a i 0 * getD b i 0 ≤ 54000
 product-few a b i h k p q = mul-le (getD a i 0) (getD b i 0) 30 1800 (omega (arith, p i h)) (omega (arith, q i k))
 
--- a sum of products whose second factors are below b
+-- a sum of products whose second factors are at most b
 bounded : (b : ℕ) (cs ys : List ℕ) → Codes 31 cs → Codes (b + 1) ys → whole cs ys ≤ 30 * b * length ys
 bounded b [] ys e f = omega arith
 bounded b (c ∷ cs) [] e f = omega arith

@@ -15,4 +15,4 @@ whole (c ∷ cs) (y ∷ ys) = c * y + whole cs ys
 -- Over the monomials of a vector of up to 64 elements the sum r is at most 56,217,600:
 -- 2,080 products c·x(i)·x(j) of at most 27,000 each, and 64 products c·x(i) of at most 900 each.
 abbrev pub At-monomials : List ℕ → ℕ → Type 0
-At-monomials terms r = (x : List ℕ) → Codes 31 x → length x ≤ 64 → terms ≡ monomials _*_ x → r ≤ 27000 * 2080 + 900 * 64
+At-monomials terms r = (x : List ℕ) → Codes 31 x → length x ≤ 64 → terms ≡ monomials _*_ x → r ≤ 56217600

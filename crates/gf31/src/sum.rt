@@ -13,7 +13,7 @@ pub fn whole_sum(cs: &[u8], terms: &[u16]) -> u32
     requires small { ⌜ Codes 1801 (now terms) ⌝ }
     ensures value { λ r. ⌜ r ≡ whole (now (cs .entry)) (now (terms .entry)) ⌝ }
     ensures bound { λ r. ⌜ r ≤ 54000 * length (now (terms .entry)) ⌝ }
-    ensures monomials { λ r. ⌜ At-monomials (now (terms .entry)) r ⌝ }
+    ensures equation { λ r. ⌜ At-monomials (now (terms .entry)) r ⌝ }
 {
     let mut sum = 0u32;
     for i in 0..cs.len() {

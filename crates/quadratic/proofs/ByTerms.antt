@@ -11,6 +11,7 @@ use Rattle.field.specs.Ring.{Ops}
 use Rattle.field.specs.Codes.{Field, Codes}
 use Rattle.field.specs.Terms.{dot, monomials, crosses}
 use Rattle.algebra.specs.Quad.{row, size, eqn, at, tab, F, G}
+use Rattle.algebra.proofs.Sizes.{size-rows}
 use Rattle.algebra.proofs.Vectors.{tab-cong, tab-at, G-length}
 use Rattle.quadratic.specs.Sums.{sums}
 use Rattle.quadratic.proofs.Rows.{dot-eqn-codes}
@@ -20,8 +21,9 @@ drop-codes : (q : ℕ) (cs : List ℕ) (a : ℕ) → Codes q cs → Codes q (dro
 drop-codes q cs a h k l = rw (getD-drop a cs k 0) (h (a + k) (omega (arith, length-drop a cs)))
 
 -- an equation's coefficients and those behind them
-room : (m n e : ℕ) (cs : List ℕ) → e < m → length cs ≡ m * size n → size n ≤ length (drop (e * size n) cs)
-room m n e cs l long = omega (arith, length-drop (e * size n) cs, add-mul e 1 (size n), mul-le (e + 1) (size n) m (size n) (omega arith) (omega arith))
+room : (m n e : ℕ) (cs : List ℕ) → e < m → length cs ≡ m * size n → row n n + n ≤ length (drop (e * size n) cs)
+room m n e cs l long =
+    omega (arith, size-rows n, length-drop (e * size n) cs, add-mul e 1 (size n), mul-le (e + 1) (size n) m (size n) (omega arith) (omega arith))
 
 module _ {q : ℕ} {o : Ops ℕ} {inv : ℕ → ℕ} (K : Field q o inv) where
   pub map-by-sums : (m : ℕ) (cs x : List ℕ) → length cs ≡ m * size (length x) → Codes q cs → Codes q x

@@ -26,6 +26,7 @@ module _ {A : Type 0} (o : Ops A) where
   length-crossed a b (u ∷ us) (v ∷ vs) e = ap suc (length-crossed a b us vs (omega arith))
 
   pub length-crosses : (xs ys : List A) → length ys ≡ length xs → length (crosses o xs ys) ≡ row (length xs) (length xs)
+  unfolding row
   length-crosses [] ys e = refl
   length-crosses (x ∷ xs) [] e = absurd (omega arith)
   length-crosses (x ∷ xs) (y ∷ ys) e =
@@ -45,6 +46,7 @@ module _ {A : Type 0} {o : Ops A} (L : Laws o) where
   infixl 70 _⊗_
   at-crosses : (xs ys : List A) (i d : ℕ) → length ys ≡ length xs → i + d < length xs
       → at o (crosses o xs ys) (row (length xs) i + d) ≡ at o xs i ⊗ at o ys (i + d) ⊕ at o ys i ⊗ at o xs (i + d)
+  unfolding row
   at-crosses [] ys i d e h = absurd (omega arith)
   at-crosses (x ∷ xs) [] i d e h = absurd (omega arith)
   at-crosses (x ∷ xs) (y ∷ ys) zero d e h =

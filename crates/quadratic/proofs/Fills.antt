@@ -9,13 +9,13 @@ use Rattle.field.specs.Ring.{Ops}
 use Rattle.field.specs.Coding.{Coding}
 use Rattle.field.specs.Terms.{pairs, monomials, crossed, crosses}
 use Rattle.algebra.specs.Quad.{row, size}
-use Rattle.algebra.proofs.Sizes.{row-few, size-few}
+use Rattle.algebra.proofs.Sizes.{row-few, size-few, size-rows}
 use Rattle.quadratic.proofs.Filling.{Filling, same-left, inside, put}
 use Rattle.quadratic.proofs.Crosses.{length-crosses}
 use Rattle.quadratic.proofs.Rows.{pairs-rows}
 
 pub length-monomials : (o : Ops ℕ) (x : List ℕ) → length (monomials (o .mul) x) ≡ size (length x)
-length-monomials o x = length-append (pairs (o .mul) x) x ∙ ap (λ (k : ℕ). k + length x) (pairs-rows (o .mul) x)
+length-monomials o x = omega (arith, length-append (pairs (o .mul) x) x, pairs-rows (o .mul) x, size-rows (length x))
 
 -- what is left of the monomials in row i, from column j on
 module _ (o : Ops ℕ) (x : List ℕ) (i : ℕ) where

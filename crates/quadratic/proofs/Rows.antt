@@ -27,10 +27,12 @@ module _ {A : Type 0} {o : Ops A} (L : Laws o) where
   nil-left a = L .add-comm 𝟘 a ∙ L .add-nil a
 
   sum-first : (n : ℕ) (f : ℕ → A) → sumTo o (suc n) f ≡ f 0 ⊕ sumTo o n (λ k. f (suc k))
+  unfolding sumTo
   sum-first zero f = L .add-comm 𝟘 (f 0)
   sum-first (suc n) f = ap (λ t. t ⊕ f (suc n)) (sum-first n f) ∙ L .add-assoc (f 0) (sumTo o n (λ k. f (suc k))) (f (suc n))
 
   sum-split : (a b : ℕ) (f : ℕ → A) → sumTo o (a + b) f ≡ sumTo o a f ⊕ sumTo o b (λ k. f (a + k))
+  unfolding sumTo
   sum-split a zero f = ap (λ n. sumTo o n f) (add-zero a) ∙ sym (L .add-nil (sumTo o a f))
   sum-split a (suc b) f =
       ap (λ n. sumTo o n f) (add-suc a b)
@@ -38,12 +40,14 @@ module _ {A : Type 0} {o : Ops A} (L : Laws o) where
       ∙ L .add-assoc (sumTo o a f) (sumTo o b (λ k. f (a + k))) (f (a + b))
 
   pub dot-sum : (cs ys : List A) → length ys ≤ length cs → dot o cs ys ≡ sumTo o (length ys) (λ k. at o cs k ⊗ at o ys k)
+  unfolding sumTo
   dot-sum [] [] h = refl
   dot-sum [] (y ∷ ys) h = absurd (omega arith)
   dot-sum (c ∷ cs) [] h = refl
   dot-sum (c ∷ cs) (y ∷ ys) h = ap (λ t. c ⊗ y ⊕ t) (dot-sum cs ys (omega arith)) ∙ sym (sum-first (length ys) (λ k. at o (c ∷ cs) k ⊗ at o (y ∷ ys) k))
 
   pub sum-rows : (n i : ℕ) (f : ℕ → A) → sumTo o (row n i) f ≡ sumTo o i (λ j. sumTo o (n - j) (λ d. f (row n j + d)))
+  unfolding sumTo row
   sum-rows n zero f = refl
   sum-rows n (suc i) f = sum-split (row n i) (n - i) f ∙ ap (λ t. t ⊕ sumTo o (n - i) (λ d. f (row n i + d))) (sum-rows n i f)
 
@@ -61,6 +65,7 @@ module _ {A : Type 0} {o : Ops A} (L : Laws o) where
   at-right us vs n k e = ap (λ (m : ℕ). at o (us ++ vs) (m + k)) (sym e) ∙ getD-append-add us vs k 𝟘
 
   at-pair : (xs : List A) (i d : ℕ) → i + d < length xs → at o (pairs (o .mul) xs) (row (length xs) i + d) ≡ at o xs i ⊗ at o xs (i + d)
+  unfolding row
   at-pair [] i d h = absurd (omega arith)
   at-pair (x ∷ xs) zero d h =
       let l = length-map (x ∷ xs) (o .mul x) in
@@ -79,6 +84,7 @@ module _ {A : Type 0} {o : Ops A} (L : Laws o) where
       ∙ ap (λ (k : ℕ). at o xs i ⊗ at o (x ∷ xs) k) w
 
   row-below : (n i d : ℕ) → i + d < n → row n i + d < row n n
+  unfolding row
   row-below zero i d h = absurd (omega arith)
   row-below (suc n) zero d h = omega (arith, row-suc n n)
   row-below (suc n) (suc i) d h = omega (arith, row-suc n n, row-suc n i, row-below n i d (omega arith))

@@ -13,14 +13,16 @@ mod tests;
 mod wiped;
 
 use field::Field;
-use terms::MONOMIALS;
 use terms::add_up;
 use terms::fill_crosses;
 use terms::fill_monomials;
 use wiped::Wiped;
 
-// F(x), with as many equations as `out` has places, by way of `terms`, which end as zeros.
-fn evaluate_by<F: Field>(cs: &[u8], x: &[u8], terms: &mut [u16], out: &mut [u8])
+// How many monomials 64 variables have.
+pub const MONOMIALS: usize = 2144;
+
+// F(x) as `evaluate` gives it, with the terms in memory that the caller lends, and that ends as zeros.
+pub fn evaluate_in<F: Field>(cs: &[u8], x: &[u8], terms: &mut [u16], out: &mut [u8])
     requires short { ⌜ length (now x) ≤ 64 ⌝ }
     requires few { ⌜ length (now out) ≤ 64 ⌝ }
     requires room { ⌜ length (now terms) ≡ 2144 ⌝ }
@@ -47,11 +49,11 @@ pub fn evaluate<F: Field>(cs: &[u8], x: &[u8], out: &mut [u8])
     ensures codes { λ _. ⌜ Codes (F·Field .coding .q) (now (out .exit)) ⌝ }
 {
     let mut terms = [0u16; MONOMIALS];
-    evaluate_by::<F>(cs, x, &mut terms, out);
+    evaluate_in::<F>(cs, x, &mut terms, out);
 }
 
-// G(x, y), with as many equations as `out` has places, by way of `terms`, which end as zeros.
-fn evaluate_polar_by<F: Field>(cs: &[u8], x: &[u8], y: &[u8], terms: &mut [u16], out: &mut [u8])
+// G(x, y) as `evaluate_polar` gives it, with the terms in memory that the caller lends, and that ends as zeros.
+pub fn evaluate_polar_in<F: Field>(cs: &[u8], x: &[u8], y: &[u8], terms: &mut [u16], out: &mut [u8])
     requires short { ⌜ length (now x) ≤ 64 ⌝ }
     requires same { ⌜ length (now y) ≡ length (now x) ⌝ }
     requires few { ⌜ length (now out) ≤ 64 ⌝ }
@@ -82,5 +84,5 @@ pub fn evaluate_polar<F: Field>(cs: &[u8], x: &[u8], y: &[u8], out: &mut [u8])
     ensures codes { λ _. ⌜ Codes (F·Field .coding .q) (now (out .exit)) ⌝ }
 {
     let mut terms = [0u16; MONOMIALS];
-    evaluate_polar_by::<F>(cs, x, y, &mut terms, out);
+    evaluate_polar_in::<F>(cs, x, y, &mut terms, out);
 }

@@ -9,9 +9,6 @@ ghost use Rattle.algebra.specs.Quad.{row as rowOf, size as sizeOf};
 ghost use Rattle.quadratic.specs.Sums.{sums as sumsOf};
 use field::Field;
 
-// How many monomials 64 variables have.
-pub const MONOMIALS: usize = 2144;
-
 // Writes x(i)·x(j), i from 0 and j from i upward, and then x(i), to the front of `terms`, and says how many there are.
 pub fn fill_monomials<F: Field>(x: &[u8], terms: &mut [u16]) -> usize
     requires short { ⌜ length (now x) ≤ 64 ⌝ }

@@ -2,8 +2,9 @@
 ghost use mathlib.Core.Path.{_≡_};
 ghost use lib.ListN.{length, replicate};
 
-// Writes zeros over the terms of secret vectors when it ends, on every way out. It does not reach copies that a compiler keeps
-// in registers or spills, and says nothing of timing.
+// Writes zeros over the terms of secret vectors when it ends, on every way out. What it does not do: it reaches no copies in
+// registers or spills, and where the memory is a local array of the same program, a compiler sees that nothing reads the zeros
+// and may leave the writes out. Memory that comes from outside the program is wiped in any case.
 pub struct Wiped<'a> {
     pub terms: &'a mut [u16],
 }

@@ -26,5 +26,5 @@ returns c =
     record {
       value = e;
       bound = omega arith;
-      monomials = at-monomials (c .args .cs .now) (c .args .terms .now) (c .loop-i .sum) e (c .pre .codes);
+      equation = at-monomials (c .args .cs .now) (c .args .terms .now) (c .loop-i .sum) e (c .pre .codes);
     }

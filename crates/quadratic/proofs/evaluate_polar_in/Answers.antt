@@ -4,10 +4,10 @@ use native.Mathlib.Omega.{arith}
 use borrow.Author.Needs.{needs}
 use lib.ListN.{length}
 use Rattle.algebra.specs.Quad.{size}
-use Rattle.algebra.proofs.Sizes.{row-few}
+use Rattle.algebra.proofs.Sizes.{row-few, size-rows}
 use Rattle.quadratic.proofs.Parts.{front-length, front-codes}
 use Rattle.quadratic.proofs.ByTerms.{polar-by-sums, sums-of}
-use Rattle.quadratic.proofs.evaluate_polar_by.Needs as need
+use Rattle.quadratic.proofs.evaluate_polar_in.Needs as need
 
 pub add-count : need.add-count
 add-count g c = omega (arith, row-few (length (c .args .x .now)) (c .pre .short), c .fill-crosses-count .ensures .count)
@@ -20,7 +20,7 @@ add-up-requires g c κs =
     let s : ℕ = c .fill-crosses-count .result in
     let few : s ≤ 2080 = omega (arith, row-few (length (c .args .x .now)) (c .pre .short)) in
     let fits : s ≤ length (c .fill-crosses-count .last .terms) = omega arith in
-    let step : s + length (c .args .x .now) ≡ size (length (c .args .x .now)) = omega (arith, c .fill-crosses-count .ensures .count) in
+    let step : s + length (c .args .x .now) ≡ size (length (c .args .x .now)) = omega (arith, c .fill-crosses-count .ensures .count, size-rows (length (c .args .x .now))) in
     record {
       few = c .pre .few;
       short = omega (arith, c .pre .short);
@@ -32,7 +32,7 @@ add-up-requires g c κs =
 
 pub returns : need.returns
 returns g c =
-    let step : c .fill-crosses-count .result + length (c .args .x .now) ≡ size (length (c .args .x .now)) = omega (arith, c .fill-crosses-count .ensures .count) in
+    let step : c .fill-crosses-count .result + length (c .args .x .now) ≡ size (length (c .args .x .now)) = omega (arith, c .fill-crosses-count .ensures .count, size-rows (length (c .args .x .now))) in
     record {
       value =
           c .add-up .ensures .value

@@ -7,7 +7,7 @@ use Rattle.algebra.specs.Quad.{size}
 use Rattle.algebra.proofs.Sizes.{size-few}
 use Rattle.quadratic.proofs.Parts.{front-length, front-codes}
 use Rattle.quadratic.proofs.ByTerms.{map-by-sums, sums-of}
-use Rattle.quadratic.proofs.evaluate_by.Needs as need
+use Rattle.quadratic.proofs.evaluate_in.Needs as need
 
 pub part-add-up-end : need.part-add-up-end
 part-add-up-end g c = omega (arith, size-few (length (c .args .x .now)) (c .pre .short))
