@@ -24,62 +24,97 @@ fn set_of(n: &str, m: &str, r: &str) -> Option<Set> {
     }
 }
 
-// A suite and a label.
-fn ask_of(suite: &str, label: &str) -> Option<(Named, u8)> {
+// A suite and a label; where one is wrong, a line says so.
+fn ask_of(rt: &LibcRuntime, suite: &str, label: &str) -> io::Result<Option<(Named, u8)>> {
     match (Named::of(suite), label.parse::<u8>()) {
-        (Some(suite), Ok(label)) => Some((suite, label)),
-        _ => None,
+        (Some(suite), Ok(label)) => Ok(Some((suite, label))),
+        (None, _) => {
+            eprintln!(rt, "mqdss: no suite is named {suite}: bench or keccak")?;
+            Ok(None)
+        }
+        _ => {
+            eprintln!(rt, "mqdss: a label is 0 to 255, not {label}")?;
+            Ok(None)
+        }
     }
 }
 
-// One command, if the words make one; true where it says yes.
-fn chosen(rt: &LibcRuntime, name: &str, args: &[String]) -> io::Result<Option<bool>> {
-    if name == "scan" && args.len() == 4 {
-        if let Some(set) = set_of(args[0].as_str(), args[1].as_str(), args[2].as_str()) {
-            return Ok(Some(run_scan(rt, set, args[3].as_str())?));
-        }
-    } else if name == "checkkey" && args.len() == 4 {
-        if let Some(set) = set_of(args[0].as_str(), args[1].as_str(), args[2].as_str()) {
-            return Ok(Some(run_checkkey(rt, set, args[3].as_str())?));
-        }
-    } else if name == "digest" && args.len() == 3 {
-        if let Some((suite, label)) = ask_of(args[0].as_str(), args[1].as_str()) {
-            return Ok(Some(run_digest(rt, suite, label, args[2].as_str())?));
-        }
+fn ask_digest(rt: &LibcRuntime, args: &[String]) -> io::Result<bool> {
+    if args.len() != 3 {
+        return usage(rt);
     }
-    Ok(None)
+    match ask_of(rt, args[0].as_str(), args[1].as_str())? {
+        Some((suite, label)) => run_digest(rt, suite, label, args[2].as_str()),
+        None => Ok(false),
+    }
 }
 
-// The commands with more words.
-fn chosen_long(rt: &LibcRuntime, name: &str, args: &[String]) -> io::Result<Option<bool>> {
-    if name == "stream" && args.len() == 4 {
-        if let Some((suite, label)) = ask_of(args[0].as_str(), args[1].as_str()) {
-            if let Ok(count) = args[3].as_str().parse::<usize>() {
-                return Ok(Some(run_stream(rt, suite, label, args[2].as_str(), count)?));
-            }
-        }
-    } else if name == "key" && args.len() == 6 {
-        if let Some(suite) = Named::of(args[0].as_str()) {
-            if let Some(set) = set_of(args[1].as_str(), args[2].as_str(), args[3].as_str()) {
-                return Ok(Some(run_key(rt, suite, set, args[4].as_str(), args[5].as_str())?));
-            }
+fn ask_stream(rt: &LibcRuntime, args: &[String]) -> io::Result<bool> {
+    if args.len() != 4 {
+        return usage(rt);
+    }
+    let Some((suite, label)) = ask_of(rt, args[0].as_str(), args[1].as_str())? else {
+        return Ok(false);
+    };
+    let words = args[3].as_str();
+    match words.parse::<usize>() {
+        Ok(count) => run_stream(rt, suite, label, args[2].as_str(), count),
+        Err(_) => {
+            eprintln!(rt, "mqdss: a count is a decimal number, not {words}")?;
+            Ok(false)
         }
     }
-    Ok(None)
+}
+
+fn ask_key(rt: &LibcRuntime, args: &[String]) -> io::Result<bool> {
+    if args.len() != 6 {
+        return usage(rt);
+    }
+    let name = args[0].as_str();
+    let Some(suite) = Named::of(name) else {
+        eprintln!(rt, "mqdss: no suite is named {name}: bench or keccak")?;
+        return Ok(false);
+    };
+    match set_of(args[1].as_str(), args[2].as_str(), args[3].as_str()) {
+        Some(set) => run_key(rt, suite, set, args[4].as_str(), args[5].as_str()),
+        None => usage(rt),
+    }
+}
+
+// The commands that take a set and a file.
+fn ask_set(rt: &LibcRuntime, scan: bool, args: &[String]) -> io::Result<bool> {
+    if args.len() != 4 {
+        return usage(rt);
+    }
+    match set_of(args[0].as_str(), args[1].as_str(), args[2].as_str()) {
+        Some(set) => {
+            if scan {
+                run_scan(rt, set, args[3].as_str())
+            } else {
+                run_checkkey(rt, set, args[3].as_str())
+            }
+        }
+        None => usage(rt),
+    }
+}
+
+fn usage(rt: &LibcRuntime) -> io::Result<bool> {
+    eprintln!(rt, "{USAGE}")?;
+    Ok(false)
 }
 
 // Runs one command; true where it says yes.
 pub fn run(rt: &LibcRuntime, args: &[String]) -> io::Result<bool> {
-    if args.len() > 0 {
-        let name = args[0].as_str();
-        let rest = &args[1..];
-        if let Some(yes) = chosen(rt, name, rest)? {
-            return Ok(yes);
-        }
-        if let Some(yes) = chosen_long(rt, name, rest)? {
-            return Ok(yes);
-        }
+    if args.len() == 0 {
+        return usage(rt);
     }
-    eprintln!(rt, "{USAGE}")?;
-    Ok(false)
+    let rest = &args[1..];
+    match args[0].as_str() {
+        "scan" => ask_set(rt, true, rest),
+        "checkkey" => ask_set(rt, false, rest),
+        "digest" => ask_digest(rt, rest),
+        "stream" => ask_stream(rt, rest),
+        "key" => ask_key(rt, rest),
+        _ => usage(rt),
+    }
 }

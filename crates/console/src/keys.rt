@@ -14,14 +14,20 @@ use refusal::Refusal;
 use report::hex::Hex;
 use report::hex::HexDisplay;
 use std::fs;
+use std::fs::File;
 use std::io;
+use std::io::Write;
 use suite::Suite;
 use suites::Named;
 use suites::NamedSuite;
 
-// Writes `bytes` to a file, or leaves none.
+// Writes a new file, and leaves none that is half written.
 fn write_whole(rt: &LibcRuntime, path: &str, bytes: &[u8]) -> io::Result<bool> {
-    match fs::write(rt, path, bytes) {
+    let mut file = match File::create(rt, path) {
+        Ok(file) => file,
+        Err(e) => return unreadable(rt, path, e),
+    };
+    match file.write_all(bytes) {
         Ok(()) => Ok(true),
         Err(e) => {
             let _ = fs::remove_file(rt, path);

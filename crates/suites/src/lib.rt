@@ -1,4 +1,7 @@
 // The suites that a program can be told by name, as one type that is a suite itself.
+ghost use mathlib.Core.Path.{_≡_};
+ghost use lib.Chars.{codes};
+ghost use Rattle.std.specs.declared.option.Option.the-variants.{Some, None};
 ghost use Rattle.suites.specs.Named.{meaningOf};
 use refusal::Refusal;
 use suite::Suite;
@@ -15,7 +18,11 @@ pub enum Named {
 
 impl Named {
     // The suite of a name on the command line.
-    pub fn of(name: &str) -> Option<Named> {
+    pub fn of(name: &str) -> Option<Named>
+        ensures bench { λ r. ⌜ (now (name .entry) ≡ codes "bench" → r ≡ Some Named.Bench) ⌝ }
+        ensures keccak { λ r. ⌜ (now (name .entry) ≡ codes "keccak" → r ≡ Some Named.Keccak) ⌝ }
+        ensures other { λ r. ⌜ ((now (name .entry) ≡ codes "bench" → ⊥) → (now (name .entry) ≡ codes "keccak" → ⊥) → r ≡ None) ⌝ }
+    {
         match name {
             "bench" => Some(Named::Bench),
             "keccak" => Some(Named::Keccak),
