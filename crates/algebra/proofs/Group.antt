@@ -1,6 +1,6 @@
 -- Proofs of identities in a commutative ring: `close (simp diffs (same (simp semi)))`. Assumes nothing.
 -- `diffs` writes both sides as one difference of sums without `neg`; `semi` multiplies out and sorts.
-use mathlib.Core.Path.{_≡_, refl, sym, ap, ap₂, _∙_}
+use mathlib.Core.Path.{_≡_, sym, ap, ap₂, _∙_}
 use Rattle.field.specs.Ring.{Ops, Laws, sub}
 
 module _ {A : Type 0} {o : Ops A} (L : Laws o) where

@@ -1,13 +1,13 @@
 -- The laws over the codes of a field, brought down from the ring of the codes.
 use mathlib.Core.Path.{_≡_, refl, sym, ap, ap₂, _∙_}
 use mathlib.Core.List.{List, [], _∷_, map}
-use Prim.Native.Nat.{ℕ, suc, _*_, _<_}
+use Prim.Native.Nat.{ℕ, suc, _<_}
 use native.Mathlib.Omega.{arith}
 use lib.ListN.{length, getD}
 use Rattle.field.specs.Ring.{Ops, sub}
 use Rattle.field.specs.Codes.{Field, Codes, Vector}
-use Rattle.algebra.specs.Quad.{size, vadd, vsub, scale, F, G}
-use Rattle.algebra.specs.Laws.{Linear, Opens, Completes, Agree, Extracts, codesBelow}
+use Rattle.algebra.specs.Quad.{vadd, vsub, scale, F, G}
+use Rattle.algebra.specs.Laws.{Linear, Completes, Extracts, codesBelow}
 use Rattle.algebra.proofs.Group.{close, diff}
 use Rattle.algebra.proofs.Vectors.{G-add, G-scale, reopen, complete, extract}
 use Rattle.algebra.proofs.Below.{Below, codes, codes-length, lift, same-code, ring, ring-laws, to-codes, F-codes}

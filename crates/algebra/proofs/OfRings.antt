@@ -1,6 +1,4 @@
 -- The laws over a ring.
-use mathlib.Core.Path.{_≡_}
-use mathlib.Core.List.{List}
 use Rattle.field.specs.Ring.{Ops, Laws}
 use Rattle.algebra.specs.Laws.{Linear, Completes, Extracts, wholeRing}
 use Rattle.algebra.proofs.Vectors.{G-add, G-scale, reopen, complete, extract}

@@ -1,7 +1,7 @@
 -- The polar form of one equation, by entries. Assumes nothing.
 use mathlib.Core.Path.{_≡_, refl, sym, ap, ap₂, fun-ext, _∙_}
 use native.Mathlib.Omega.{arith}
-use Prim.Native.Nat.{ℕ, zero, suc, _+_, _-_, _*_, _<_}
+use Prim.Native.Nat.{ℕ, zero, suc, _+_, _-_, _<_}
 use Rattle.field.specs.Ring.{Ops, Laws, sub}
 use Rattle.algebra.specs.Quad.{sumTo, row, eqn}
 use Rattle.algebra.proofs.Group.{semi, diffs, close, same, given, is-diff, diff, diff-add}
@@ -114,7 +114,7 @@ module _ {A : Type 0} {o : Ops A} (L : Laws o) where
     pol-sub x z y =
         is-diff L _ _ _ (sym (pol-add (λ k. sub o (x k) (z k)) z y) ∙ ap (λ t. pol t y) (fun-ext (λ k. diff-add L (x k) (z k))))
 
-    -- one round, honestly run: the verifier's side 1 gives what was committed
+    -- a round that is run honestly: what a verifier works out from r1 is what was committed to
     pub round-complete : (α : A) (s r0 t0 : ℕ → A) (e0 : A)
         → let r1 : ℕ → A = λ k. sub o (s k) (r0 k) in
         let t1 : ℕ → A = λ k. sub o (α ⊗ r0 k) (t0 k) in
@@ -128,7 +128,7 @@ module _ {A : Type 0} {o : Ops A} (L : Laws o) where
         pol-sub (λ k. α ⊗ r0 k) t0 r1 ∙ ap (λ t. sub o t (pol t0 r1)) (pol-mul α r0 r1) in
         rw (geq-is (λ k. sub o (α ⊗ r0 k) (t0 k)) r1, geq-is t0 r1, v-is, p-is) (close L (simp (diffs, L) (same L (simp (semi, L)))))
 
-    -- two couples of accepted answers with the same openings, under challenges whose difference has the inverse u
+    -- openings that agree, under challenges whose difference has the inverse u
     pub round-extract : (a b u v : A) (r0 r1 t t′ : ℕ → A) (e e′ : A)
         → u ⊗ sub o a b ≡ 𝟙
         → ((k : ℕ) → k < n → sub o (a ⊗ r0 k) (t k) ≡ sub o (b ⊗ r0 k) (t′ k))

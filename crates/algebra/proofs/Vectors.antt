@@ -1,15 +1,14 @@
--- The map on lists: G is linear in its first argument, a round is complete, and four answers give a preimage. Assumes nothing.
-use mathlib.Core.Path.{_≡_, refl, sym, ap, ap₂, fun-ext, _∙_}
-use mathlib.Core.List.{List, map}
-use Prim.Native.Nat.{ℕ, zero, suc, _+_, _-_, _*_, _<_, _≤_}
+-- The map on lists: G is linear in its first argument, a round completes, and four openings give a preimage. Assumes nothing.
+use mathlib.Core.Path.{_≡_, refl, sym, ap, ap₂, _∙_}
+use mathlib.Core.List.{List}
+use Prim.Native.Nat.{ℕ, _+_, _*_, _<_}
 use native.Mathlib.Omega.{arith}
-use lib.ListN.{length, getD}
-use Rattle.std.specs.Iters.{counting}
+use lib.ListN.{length}
 use Rattle.std.proofs.shelf.Counted.{fill-by-all, getD-map-counting, length-map-counting}
 use Rattle.field.specs.Ring.{Ops, Laws, sub}
-use Rattle.algebra.specs.Quad.{sumTo, row, eqn, size, at, tab, vadd, vsub, scale, F, G}
+use Rattle.algebra.specs.Quad.{eqn, size, at, tab, vadd, vsub, scale, F, G}
 use Rattle.algebra.proofs.Group.{semi, diffs, close, same}
-use Rattle.algebra.proofs.Polar.{sum-cong, eqn-cong, geq, geq-is, pol, pol-add, pol-mul, pol-sub, round-complete, round-extract}
+use Rattle.algebra.proofs.Polar.{eqn-cong, geq, geq-is, pol-add, pol-mul, pol-sub, round-complete, round-extract}
 
 module _ {A : Type 0} (o : Ops A) where
   pub at-tab : (n : ℕ) (f : ℕ → A) (k : ℕ) → k < n → at o (tab o n f) k ≡ f k
@@ -63,7 +62,7 @@ module _ {A : Type 0} (o : Ops A) where
 pub ruleset entries = (vadd-at, vsub-at, scale-at)
 
 module _ {A : Type 0} {o : Ops A} (L : Laws o) where
-  -- a y − (a y − x) is x again
+  -- a·x - (a·x - y) is y again
   pub reopen : (j : ℕ) (a : A) (x y : List A) → length y ≡ j → vsub o j (scale o j a x) (vsub o j (scale o j a x) y) ≡ y
   reopen j a x y h = list-ext o j _ _ (vsub-length o j _ _) h (λ e l. simp entries (close L (simp (diffs, L) (same L (simp (semi, L))))))
 
@@ -85,7 +84,7 @@ module _ {A : Type 0} {o : Ops A} (L : Laws o) (m n : ℕ) (cs : List A) where
       F-at (vadd o n x y) (λ k. f k ⊕ g k) e l (λ k h. vadd-at o n x y k h ∙ ap₂ _⊕_ (p k h) (q k h)) in
       simp (entries, both, F-at x f e l p, F-at y g e l q)
 
-  -- (1) G is linear in its first argument
+  -- G is linear in its first argument
   pub G-add : (x z y : List A) → G o m n cs (vadd o n x z) y ≡ vadd o m (G o m n cs x y) (G o m n cs z y)
   G-add x z y = list-ext o m _ _ (G-length o m n cs _ y) (vadd-length o m _ _) (λ e l.
       let c : ℕ → A = cof o n cs e in
@@ -93,14 +92,6 @@ module _ {A : Type 0} {o : Ops A} (L : Laws o) (m n : ℕ) (cs : List A) where
       ∙ geq-is L n c _ _ ∙ pol-add L n c (at o x) (at o z) (at o y)
       ∙ ap₂ _⊕_ (sym (G-at x y (at o x) (at o y) e l (λ k h. refl) (λ k h. refl) ∙ geq-is L n c _ _)) (sym (G-at z y (at o z) (at o y) e l (λ k h. refl) (λ k h. refl) ∙ geq-is L n c _ _))
       ∙ sym (vadd-at o m _ _ e l))
-
-  pub G-sub : (x z y : List A) → G o m n cs (vsub o n x z) y ≡ vsub o m (G o m n cs x y) (G o m n cs z y)
-  G-sub x z y = list-ext o m _ _ (G-length o m n cs _ y) (vsub-length o m _ _) (λ e l.
-      let c : ℕ → A = cof o n cs e in
-      G-at (vsub o n x z) y (λ k. sub o (at o x k) (at o z k)) (at o y) e l (λ k h. vsub-at o n x z k h) (λ k h. refl)
-      ∙ geq-is L n c _ _ ∙ pol-sub L n c (at o x) (at o z) (at o y)
-      ∙ ap₂ (sub o) (sym (G-at x y (at o x) (at o y) e l (λ k h. refl) (λ k h. refl) ∙ geq-is L n c _ _)) (sym (G-at z y (at o z) (at o y) e l (λ k h. refl) (λ k h. refl) ∙ geq-is L n c _ _))
-      ∙ sym (vsub-at o m _ _ e l))
 
   pub G-scale : (a : A) (x y : List A) → G o m n cs (scale o n a x) y ≡ scale o m a (G o m n cs x y)
   G-scale a x y = list-ext o m _ _ (G-length o m n cs _ y) (scale-length o m _ _) (λ e l.
@@ -110,7 +101,7 @@ module _ {A : Type 0} {o : Ops A} (L : Laws o) (m n : ℕ) (cs : List A) where
       ∙ ap (λ t. a ⊗ t) (sym (G-at x y (at o x) (at o y) e l (λ k h. refl) (λ k h. refl) ∙ geq-is L n c _ _))
       ∙ sym (scale-at o m _ _ e l))
 
-  -- (2) a round that is run honestly
+  -- a round that is run honestly
   pub complete : (α : A) (s r0 t0 e0 : List A)
       → vsub o m (vsub o m (scale o m α (vsub o m (F o m n cs s) (F o m n cs (vsub o n s r0)))) (G o m n cs (vsub o n (scale o n α r0) t0) (vsub o n s r0))) (vsub o m (scale o m α (F o m n cs r0)) e0)
       ≡ vadd o m (G o m n cs t0 (vsub o n s r0)) e0
@@ -126,7 +117,7 @@ module _ {A : Type 0} {o : Ops A} (L : Laws o) (m n : ℕ) (cs : List A) where
       let g0 = G-at t0 (vsub o n s r0) (at o t0) r1 e l (λ k h. refl) r1-is in
       simp (entries, fs, f0, f1, g1, g0) (round-complete L n (cof o n cs e) α (at o s) (at o r0) (at o t0) (at o e0 e)))
 
-  -- (3) four accepted answers with equal openings give a preimage of v
+  -- four openings that agree give a preimage of v
   pub extract : (a b u : A) (v r0 r1 t t′ e e′ : List A) → length v ≡ m → u ⊗ sub o a b ≡ 𝟙
       → vsub o n (scale o n a r0) t ≡ vsub o n (scale o n b r0) t′
       → vsub o m (scale o m a (F o m n cs r0)) e ≡ vsub o m (scale o m b (F o m n cs r0)) e′

@@ -8,7 +8,7 @@ use lib.ListN.{length, getD, drop, length-drop}
 use Rattle.std.proofs.shelf.Bits.{mul-le}
 use Rattle.std.proofs.shelf.Lists.{getD-drop}
 use Rattle.field.specs.Codes.{Codes}
-use Rattle.field.specs.Terms.{pairs, monomials}
+use Rattle.field.specs.Terms.{pairs}
 use Rattle.field.proofs.Pairs.{length-pairs}
 use Rattle.gf31.specs.Whole.{whole, At-monomials}
 

@@ -1,16 +1,16 @@
 -- The sums over monomials are the map, and the sums over cross terms its polar form.
-use mathlib.Core.Path.{_≡_, refl, sym, ap, ap₂, fun-ext, _∙_}
+use mathlib.Core.Path.{_≡_, ap, ap₂, fun-ext, _∙_}
 use mathlib.Core.List.{List, map}
 use Prim.Native.Nat.{ℕ, _+_, _-_, _*_, _<_, _≤_}
 use native.Mathlib.Nat.{add-mul, sub-zero}
 use native.Mathlib.Omega.{arith}
-use lib.ListN.{length, getD, drop, take, length-drop}
+use lib.ListN.{length, drop, take, length-drop}
 use Rattle.std.proofs.shelf.Bits.{mul-le}
 use Rattle.std.proofs.shelf.Lists.{getD-drop}
 use Rattle.field.specs.Ring.{Ops}
 use Rattle.field.specs.Codes.{Field, Codes}
-use Rattle.field.specs.Terms.{dot, monomials, crosses}
-use Rattle.algebra.specs.Quad.{row, size, eqn, at, tab, F, G}
+use Rattle.field.specs.Terms.{monomials, crosses}
+use Rattle.algebra.specs.Quad.{row, size, eqn, at, F, G}
 use Rattle.algebra.proofs.Sizes.{size-rows}
 use Rattle.algebra.proofs.Vectors.{tab-cong, tab-at, G-length}
 use Rattle.quadratic.specs.Sums.{sums}

@@ -1,16 +1,16 @@
 -- The sum over the list of cross terms is the polar form.
 use mathlib.Core.Path.{_≡_, refl, sym, ap, ap₂, fun-ext, subst, _∙_}
-use mathlib.Core.List.{List, [], _∷_, _++_, map}
+use mathlib.Core.List.{List, [], _∷_, _++_}
 use Prim.Native.Nat.{ℕ, zero, suc, _+_, _-_, _*_, _<_, _≤_}
 use native.Mathlib.Omega.{arith}
-use lib.ListN.{length, getD, drop, length-append, length-drop}
-use Rattle.std.proofs.shelf.Lists.{map-append, getD-drop}
+use lib.ListN.{length, drop, length-append, length-drop}
+use Rattle.std.proofs.shelf.Lists.{getD-drop}
 use Rattle.field.specs.Ring.{Ops, Laws}
 use Rattle.field.specs.Codes.{Field, Codes}
 use Rattle.field.specs.Terms.{dot, crossed, crosses}
 use Rattle.algebra.specs.Quad.{sumTo, row, size, at, G}
 use Rattle.algebra.proofs.Polar.{sum-cong, pol, quad, dsum, geq-is}
-use Rattle.algebra.proofs.Vectors.{cof, G-at, G-length}
+use Rattle.algebra.proofs.Vectors.{cof, G-at}
 use Rattle.algebra.proofs.Below.{Below, codes, codes-length, lift, ring, ring-laws, at-code, G-code}
 use Rattle.algebra.proofs.Sizes.{row-suc}
 use Rattle.quadratic.proofs.Rows.{dot-sum, sum-rows, at-left, at-right, dot-code, codes-append}

@@ -8,7 +8,7 @@ use Rattle.std.proofs.shelf.Lists.{drop-more, drop-all}
 use Rattle.field.specs.Ring.{Ops}
 use Rattle.field.specs.Coding.{Coding}
 use Rattle.field.specs.Terms.{pairs, monomials, crossed, crosses}
-use Rattle.algebra.specs.Quad.{row, size}
+use Rattle.algebra.specs.Quad.{size}
 use Rattle.algebra.proofs.Sizes.{row-few, size-few, size-rows}
 use Rattle.quadratic.proofs.Filling.{Filling, same-left, inside, put}
 use Rattle.quadratic.proofs.Crosses.{length-crosses}

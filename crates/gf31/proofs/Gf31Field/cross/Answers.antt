@@ -1,5 +1,5 @@
 use native.Mathlib.Nat.{add-mod}
-use Prim.Native.Nat.{_*_, _≤_}
+use Prim.Native.Nat.{_*_}
 use native.Mathlib.Omega.{arith}
 use Rattle.gf31.proofs.Bounds.{pair-few}
 use Rattle.gf31.proofs.Gf31Field.cross.Needs as need

@@ -1,7 +1,7 @@
-use Prim.Native.Nat.{ℕ, _+_, _*_, _<_, _≤_}
+use Prim.Native.Nat.{_<_}
 use mathlib.Core.Path.{_≡_}
 use native.Mathlib.Omega.{arith}
-use lib.ListN.{length, getD, drop}
+use lib.ListN.{length, drop}
 use Rattle.gf31.specs.Whole.{whole}
 use Rattle.gf31.proofs.Bounds.{product-few, at-monomials}
 use Rattle.gf31.proofs.Wholes.{whole-more, whole-all}

@@ -1,6 +1,5 @@
-use mathlib.Core.Path.{_≡_, sym, _∙_}
-use mathlib.Core.List.{List, map, append-nil}
-use Prim.Native.Nat.{ℕ, _<_}
+use mathlib.Core.Path.{sym, _∙_}
+use mathlib.Core.List.{map, append-nil}
 use native.Mathlib.Omega.{arith}
 use lib.ListN.{take}
 use Rattle.quadratic.proofs.Filling.{none-yet, same-left}

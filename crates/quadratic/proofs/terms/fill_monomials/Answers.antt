@@ -1,6 +1,5 @@
 use mathlib.Core.Path.{_≡_, sym, _∙_}
-use mathlib.Core.List.{List, [], map, append-nil}
-use Prim.Native.Nat.{ℕ, _<_}
+use mathlib.Core.List.{[], map, append-nil}
 use native.Mathlib.Omega.{arith}
 use lib.ListN.{drop, take}
 use Rattle.std.proofs.shelf.Lists.{drop-all}
