@@ -11,6 +11,7 @@
     void prefix##_sha3_256(const uint8_t *message, size_t len, uint8_t out[32]);                                      \
     void prefix##_shake128(const uint8_t *message, size_t len, uint8_t *out, size_t out_len);                         \
     void prefix##_map(const uint8_t *cs, const uint8_t *x, size_t n, size_t m, uint8_t *out);                         \
+    void prefix##_map_32(const uint8_t *cs, const uint8_t *x, size_t n, size_t m, uint8_t *out);                      \
     void prefix##_polar(const uint8_t *cs, const uint8_t *x, const uint8_t *y, size_t n, size_t m, uint8_t *out);     \
     int prefix##_make_key(uint8_t *map, uint8_t *secret, const uint8_t key[64], uint8_t answer[72]);
 

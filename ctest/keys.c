@@ -54,6 +54,7 @@ static const struct call CALLS[] = {
     {"bench", 0, 1, 1, 1, 66, SECRET, 33, KEY, 3, 0, 0, 0, {0, 0, 0}},
     {"bench, longer map and secret", 0, 1, 1, 1, 67, SECRET + 1, 33, KEY, 3, 0, 0, 0, {0, 0, 0}},
     {"bench, largest set", 0, 64, 64, 269, MAP, SECRET, ANSWER, KEY, 3, 1, 2, 0, {0, 0, 0}},
+    {"bench, pad of six bits", 0, 2, 2, 1, 75, SECRET, 34, KEY, 3, 1, 2, 0, {0, 0, 0}},
     {"Keccak", 1, 1, 1, 1, 66, SECRET, 33, KEY, 3, 0, 0, 0, {0, 0, 0}},
     {"Keccak, largest set", 1, 64, 64, 269, MAP, SECRET, ANSWER, KEY, 3, 1, 2, 0, {0, 0, 0}},
 };
@@ -73,6 +74,24 @@ static void check(const char *call, const char *what, int holds) {
 static int all(const uint8_t *bytes, size_t len, uint8_t value) {
     for (size_t i = 0; i < len; i++) {
         if (bytes[i] != value) return 0;
+    }
+    return 1;
+}
+
+// Whether bytes are a packed vector of m elements: five bits each, none of them 31, and zeros behind the last.
+static int vector(const uint8_t *bytes, size_t len, size_t m) {
+    unsigned element = 0;
+    for (size_t bit = 0; bit < 8 * len; bit++) {
+        unsigned set = bytes[bit / 8] >> bit % 8 & 1;
+        if (bit >= 5 * m) {
+            if (set) return 0;
+            continue;
+        }
+        element |= set << bit % 5;
+        if (bit % 5 == 4) {
+            if (element == 31) return 0;
+            element = 0;
+        }
     }
     return 1;
 }
@@ -100,7 +119,7 @@ static void make(const struct call *c) {
     check(c->name, "number, layer and place", same);
     if (c->status == 0) {
         check(c->name, "the public key begins with the seed S", all(answer, 32, c->s));
-        check(c->name, "the public key holds elements", !all(answer + 32, c->answer_len - 32, FILL));
+        check(c->name, "the public key holds elements and a pad of zeros", vector(answer + 32, c->answer_len - 32, c->m));
     }
 }
 
