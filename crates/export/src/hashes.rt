@@ -4,7 +4,7 @@ ghost use Prim.Native.Nat.{_+_, _≤_};
 ghost use lib.ListN.{length, getD};
 ghost use Rattle.keccak.specs.State.{five};
 ghost use Rattle.sha3.specs.Sponge.{later};
-ghost use Rattle.sha3.specs.Hash.{shake128 as shake, ShakeBits};
+ghost use Rattle.sha3.specs.Hash.{shake128 as shake, PaddedSha3, PaddedShake, Sha3Bits, ShakeBits};
 ghost use Rattle.export.specs.Calls.{statusOf, bytesOf};
 ghost use Rattle.export.specs.Hashes.{rowsOf, flat, digestCall, permuteCall};
 use keccak::State;
@@ -105,6 +105,8 @@ pub extern "C" fn beltscarp_keccak_f(lanes: &mut [u64], times: usize) -> u32
 pub extern "C" fn beltscarp_sha3_256(message: &[u8], out: &mut [u8]) -> u32
     ensures status { λ s. ⌜ s ≡ statusOf (digestCall (now (message .entry)) (length (now (out .entry)))) ⌝ }
     ensures digest { λ _. ⌜ now (out .exit) ≡ bytesOf (length (now (out .entry))) (digestCall (now (message .entry)) (length (now (out .entry)))) ⌝ }
+    ensures padding { λ s. ⌜ (s ≡ 0 → PaddedSha3 (now (message .entry))) ⌝ }
+    ensures bits { λ s. ⌜ (s ≡ 0 → Sha3Bits (now (message .entry)) (now (out .exit))) ⌝ }
 {
     if out.len() != 32 {
         out.fill(0);
@@ -118,6 +120,7 @@ pub extern "C" fn beltscarp_sha3_256(message: &[u8], out: &mut [u8]) -> u32
 #[unsafe(no_mangle)]
 pub extern "C" fn beltscarp_shake128(message: &[u8], out: &mut [u8])
     ensures stream { λ _. ⌜ now (out .exit) ≡ shake (now (message .entry)) (length (now (out .entry))) ⌝ }
+    ensures padding { λ _. ⌜ PaddedShake (now (message .entry)) ⌝ }
     ensures bits { λ _. ⌜ ShakeBits (now (message .entry)) (now (out .exit)) ⌝ }
 {
     shake128(message, out);

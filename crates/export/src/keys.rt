@@ -1,11 +1,14 @@
 // Key making and the check of a signature's vectors, for C.
 ghost use mathlib.Core.Path.{_≡_};
-ghost use Prim.Native.Nat.{ℕ};
+ghost use mathlib.Core.Bool.{true};
 ghost use lib.ListN.{length, replicate};
 ghost use Rattle.std.specs.declared.option.Option.the-variants.{Some};
 ghost use Rattle.refusal.specs.Outcome.{told as ending};
 ghost use Rattle.gf31.specs.Modulo.{coding31};
-ghost use Rattle.wire.specs.Layout.{vectorsOf};
+ghost use Rattle.packing.specs.Laws.{Judges};
+ghost use Rattle.params.specs.Sets.{good};
+ghost use Rattle.params.specs.Sizes.{signatureLength};
+ghost use Rattle.wire.specs.Layout.{vectorsOf, Faulty};
 ghost use Rattle.keys.specs.Keys.{makeOf};
 ghost use Rattle.export.specs.Calls.{answerOf, numbersIn, writtenBy, setBy, suiteOf, heard, asked};
 use field::Field;
@@ -95,6 +98,7 @@ pub extern "C" fn beltscarp_check_vectors(
 ) -> u32
     ensures status { λ s. ⌜ s ≡ answerOf (heard (length (now (told .entry))) (vectorsOf 31 5 (setBy n m r) (now (signature .entry)))) ⌝ }
     ensures numbers { λ _. ⌜ now (told .exit) ≡ numbersIn (length (now (told .entry))) (heard (length (now (told .entry))) (vectorsOf 31 5 (setBy n m r) (now (signature .entry)))) ⌝ }
+    ensures judged { λ _. ⌜ (length (now (told .entry)) ≡ 3 → good (setBy n m r) ≡ true → length (now (signature .entry)) ≡ signatureLength 5 (setBy n m r) → Judges (Faulty 31 5 (setBy n m r) (now (signature .entry))) (vectorsOf 31 5 (setBy n m r) (now (signature .entry)))) ⌝ }
 {
     if told.len() == 3 {
         let set = Set { n, m, r };
