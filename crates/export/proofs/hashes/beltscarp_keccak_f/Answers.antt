@@ -1,3 +1,4 @@
+-- The lanes afterwards are those of the state that was permuted.
 use Rattle.export.proofs.Permuted.{done, permuted}
 use Rattle.export.proofs.hashes.beltscarp_keccak_f.Needs as need
 

@@ -1,3 +1,4 @@
+-- Before turn i the state is that after i permutations.
 use mathlib.Core.Path.{_≡_}
 use Rattle.sha3.specs.Sponge.{later}
 use Rattle.export.proofs.hashes.permute_often.Given as given

@@ -1,3 +1,4 @@
+-- At the end of the loop all entries are tested.
 use mathlib.Core.Path.{_≡_, sym, ap, _∙_}
 use mathlib.Core.Bool.{true}
 use native.Mathlib.Omega.{arith}

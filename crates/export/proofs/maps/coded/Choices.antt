@@ -1,3 +1,4 @@
+-- All entries are codes exactly where those so far were, and the rest are.
 use mathlib.Core.Path.{_≡_}
 use mathlib.Core.Bool.{_&&_}
 use lib.ListN.{drop}

@@ -1,3 +1,4 @@
+-- The number of coefficients that the code computes is the one that the definition has.
 use Rattle.export.proofs.Sizes.{fits-half}
 use Rattle.export.proofs.maps.fits.Needs as need
 
