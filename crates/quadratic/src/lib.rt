@@ -17,6 +17,7 @@ use terms::add_up;
 use terms::fill_crosses;
 use terms::fill_monomials;
 use wiped::Wiped;
+use wiped::all_zero;
 
 // How many monomials 64 variables have.
 pub const MONOMIALS: usize = 2144;
@@ -50,6 +51,10 @@ pub fn evaluate<F: Field>(cs: &[u8], x: &[u8], out: &mut [u8])
 {
     let mut terms = [0u16; MONOMIALS];
     evaluate_in::<F>(cs, x, &mut terms, out);
+    // never taken; it makes the zeros something that is read
+    if !all_zero(&terms) {
+        out.fill(0);
+    }
 }
 
 // G(x, y) as `evaluate_polar` gives it, with the terms in memory that the caller lends, and that ends as zeros.
@@ -85,4 +90,7 @@ pub fn evaluate_polar<F: Field>(cs: &[u8], x: &[u8], y: &[u8], out: &mut [u8])
 {
     let mut terms = [0u16; MONOMIALS];
     evaluate_polar_in::<F>(cs, x, y, &mut terms, out);
+    if !all_zero(&terms) {
+        out.fill(0);
+    }
 }

@@ -1,10 +1,10 @@
 // A guard that wipes terms.
 ghost use mathlib.Core.Path.{_≡_};
+ghost use mathlib.Core.Bool.{true};
 ghost use lib.ListN.{length, replicate};
 
 // Writes zeros over the terms of secret vectors when it ends, on every way out. What it does not do: it reaches no copies in
-// registers or spills, and where the memory is a local array of the same program, a compiler sees that nothing reads the zeros
-// and may leave the writes out. Memory that comes from outside the program is wiped in any case.
+// registers or spills.
 pub struct Wiped<'a> {
     pub terms: &'a mut [u16],
 }
@@ -16,4 +16,16 @@ impl Drop for Wiped<'_> {
         self.terms.fill(0);
         let Wiped { terms: _ } = self;
     }
+}
+
+// Whether all terms are zeros. Where the terms are a local array, a compiler that sees nobody read the zeros may leave the writes
+// out; a caller that acts on this answer reads them.
+pub fn all_zero(terms: &[u16]) -> bool
+    ensures { λ r. ⌜ (now (terms .entry) ≡ replicate (length (now (terms .entry))) 0 → r ≡ true) ⌝ }
+{
+    let mut any = 0u16;
+    for t in terms {
+        any |= *t;
+    }
+    any == 0
 }

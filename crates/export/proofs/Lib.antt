@@ -1,0 +1,4 @@
+-- Lemmas for the exported functions.
+mod Codes
+mod Sizes
+mod Permuted
