@@ -5,3 +5,4 @@ pub mod Fills
 pub mod Parts
 pub mod ByTerms
 pub mod Coefficients
+pub mod Zeros
