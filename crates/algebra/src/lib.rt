@@ -1,4 +1,6 @@
 // The algebra of the quadratic map over any commutative ring with unit, and over the codes of any field.
+#![tactic(auto)]
+
 ghost use Rattle.field.specs.Ring.{Ops, Laws};
 ghost use Rattle.algebra.specs.Laws.{Linear, Completes, Extracts, whole_ring, codes_below};
 

@@ -1,4 +1,6 @@
 // The test program: edges and refusals of the kit's calls, each at its place and in its order.
+#![tactic(auto)]
+
 mod keys;
 mod suites;
 mod tally;

@@ -1,4 +1,6 @@
 // What the program `mqdss` does, command by command.
+#![tactic(auto)]
+
 pub mod ask;
 pub mod command;
 pub mod demo;

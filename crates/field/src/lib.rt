@@ -1,4 +1,6 @@
 // What a finite field promises: its elements are codes, its operations keep a field's laws, and its codes lie in bytes in one way.
+#![tactic(auto)]
+
 ghost use Rattle.std.specs.Prelude.{◌≡◌, ◌<◌, ◌≤◌, map, length};
 ghost use Rattle.field.specs.Codes.{Codes};
 ghost use Rattle.field.specs.Coding.{Coding, Coded};

@@ -1,5 +1,5 @@
 -- How large products of codes get, and the sum of an equation.
-use Rattle.std.proofs.Common.{◌≡◌, ℕ, zero, suc, ◌+◌, ◌*◌, ◌<◌, ◌≤◌, List, [], ◌∷◌, ◌++◌, map, length, get_or, drop, sym, refl, ap, ◌∙◌, suc-le-suc, zero-le, add_assoc, zero-add, mul_add, arith, length-drop}
+use Rattle.std.proofs.Common.{◌≡◌, ℕ, zero, suc, ◌+◌, ◌*◌, ◌<◌, ◌≤◌, List, [], ◌∷◌, ◌++◌, map, length, get_or, drop, sym, refl, ap, ◌∙◌, suc-le-suc, zero-le, add_assoc, zero-add, mul-add, arith, length-drop}
 use Rattle.std.proofs.lemmas.Nat.{mul-le}
 use Rattle.std.proofs.lemmas.List.{get_or-drop}
 use Rattle.field.specs.Codes.{Codes}
@@ -21,7 +21,7 @@ bounded b (c ∷ cs) (y ∷ ys) e f =
     let u : c ≤ 30 = omega (arith, e zero (suc-le-suc zero-le)) in
     let v : y ≤ b = omega (arith, f zero (suc-le-suc zero-le)) in
     let s : suc (length ys) ≡ length ys + 1 = omega arith in
-    omega (arith, mul-le c y 30 b u v, bounded b cs ys (λ k h. e (suc k) (suc-le-suc h)) (λ k h. f (suc k) (suc-le-suc h)), mul_add (30 * b) (length ys) 1, ap (λ (n : ℕ). 30 * b * n) s)
+    omega (arith, mul-le c y 30 b u v, bounded b cs ys (λ k h. e (suc k) (suc-le-suc h)) (λ k h. f (suc k) (suc-le-suc h)), mul-add (30 * b) (length ys) 1, ap (λ (n : ℕ). 30 * b * n) s)
 
 whole_nil : (cs : List ℕ) → whole cs [] ≡ 0
 whole_nil [] = refl

@@ -1,4 +1,6 @@
 // The field of 31 elements.
+#![tactic(auto)]
+
 ghost use Rattle.gf31.specs.Modulo.{coding31};
 ghost use Rattle.gf31.specs.Laws.{coded31};
 

@@ -3,6 +3,8 @@
 //!     let next = keccak::permute([[0; 5]; 5]);
 //!
 //! Each step is stated twice: on whole lanes, as it is computed, and on the bits A[x, y, z], as the standard has it.
+#![tactic(auto)]
+
 ghost use Rattle.std.specs.Prelude.{◌≡◌, ◌<◌};
 ghost use Rattle.keccak.specs.Bits.{RoundBits, RoundsBits};
 ghost use Rattle.keccak.specs.Rounds.{round_of, keccak_f};

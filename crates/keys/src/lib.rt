@@ -1,4 +1,6 @@
 // Keys: the check of a public key, and the making of one from a secret key.
+#![tactic(auto)]
+
 ghost use Rattle.std.specs.Prelude.{◌≡◌, ◌+◌, ◌*◌, ◌≤◌, true, ◌++◌, length, replicate};
 ghost use Rattle.refusal.specs.Outcome.{told, written};
 ghost use Rattle.field.specs.Codes.{Codes};

@@ -1,4 +1,6 @@
 // The program: `mqdss COMMAND ..`, status 0 where the command says yes, else 1.
+#![tactic(auto)]
+
 use console::command::run;
 use std::{env, io};
 

@@ -1,6 +1,6 @@
 -- Digits and the number that they write give each other back.
 use Rattle.std.proofs.Common.{◌≡◌, ℕ, zero, suc, ◌+◌, ◌-◌, ◌*◌, ◌/◌, ◌%◌, ◌^◌, ◌<◌, ◌≤◌, List, [], ◌∷◌, length, get_or, sym, refl, ap, ◌∙◌, mod-lt, mod-eq_of_lt, mul-le-mul_left, div-one, sub-one, arith}
-use native.Mathlib.Nat.{pow-zero, pow_succ', add-mul-mod_self_left, add-mul-div_left, div-eq_of_lt, div-div-eq-div-mul}
+use native.Mathlib.Nat.{pow-zero, pow-succ', add-mul-mod_self_left, add-mul-div_left, div-eq_of_lt, div-div-eq-div-mul}
 use Rattle.std.specs.List.{AllByRecursion as All}
 use Rattle.std.proofs.lemmas.Nat.{div-add-mod', div_below}
 use Rattle.packing.specs.Numeral.{amount, digits}
@@ -23,7 +23,7 @@ get_or_digits b zero N i h = elim h [ ]
 get_or_digits b (suc n) N zero h = ap (λ (m : ℕ). m % b) (sym (div-one N) ∙ ap (λ (m : ℕ). N / m) (sym (pow-zero b)))
 get_or_digits b (suc n) N (suc i) h =
     get_or_digits b n (N / b) i (omega arith)
-    ∙ ap (λ (m : ℕ). m % b) (div-div-eq-div-mul N b (b ^ i) ∙ ap (λ (m : ℕ). N / m) (sym (pow_succ' b i)))
+    ∙ ap (λ (m : ℕ). m % b) (div-div-eq-div-mul N b (b ^ i) ∙ ap (λ (m : ℕ). N / m) (sym (pow-succ' b i)))
 
 -- a lowest digit, and what is above it
 low_digit : (b d r : ℕ) → d < b → (d + b * r) % b ≡ d
@@ -47,7 +47,7 @@ pub amount_lt : (b : ℕ) (ds : List ℕ) → All (λ d. d < b) ds → amount b 
 amount_lt b [] a = omega (arith, pow-zero b)
 amount_lt b (d ∷ ds) a =
     let e = amount_lt b ds a.1 in
-    let p = pow_succ' b (length ds) in
+    let p = pow-succ' b (length ds) in
     let m : b * (amount b ds + 1) ≤ b * b ^ length ds = search (arith, mul-le-mul_left) in
     let h : d < b = a.0 in
     omega arith
@@ -55,7 +55,7 @@ amount_lt b (d ∷ ds) a =
 pub amount_digits : (b n N : ℕ) → 0 < b → N < b ^ n → amount b (digits b n N) ≡ N
 amount_digits b zero N p h = omega (arith, pow-zero b)
 amount_digits b (suc n) N p h =
-    let w = pow_succ' b n in
+    let w = pow-succ' b n in
     let below : N / b < b ^ n = div_below N b (b ^ n) p (omega arith) in
     let e = amount_digits b n (N / b) p below in
     let s = div-add-mod' N b in

@@ -1,6 +1,6 @@
 -- One turn of the loops that read a packed vector, and their ends.
 use Rattle.std.proofs.Common.{◌≡◌, ℕ, ◌+◌, ◌-◌, ◌*◌, ◌/◌, ◌%◌, ◌^◌, ◌<◌, ◌≤◌, List, ◌∷◌, ◌++◌, length, get_or, take, drop, set, sym, refl, ap, ◌∙◌, mul_comm, div-one, add-one, arith}
-use native.Mathlib.Nat.{pow-zero, pow_succ', div-div-eq-div-mul, add-mul-div_left, add-mul-mod_self_left}
+use native.Mathlib.Nat.{pow-zero, pow-succ', div-div-eq-div-mul, add-mul-div_left, add-mul-mod_self_left}
 use Rattle.std.proofs.lemmas.List.{at_drop_more, at_drop_all}
 use Rattle.std.proofs.lemmas.Nat.{pow-add, pow_pos, mul-le, shr_below}
 use Rattle.packing.specs.Numeral.{amount, digits}
@@ -70,7 +70,7 @@ module _ {b k : ℕ} {bytes : List ℕ} {i j held bits : ℕ} (p : Reading b k b
 
     pub element_more : Reading b k bytes (i + 1) j (held / 2 ^ b) (bits - b)
     element_more =
-        let pow : (2 ^ b) ^ (i + 1) ≡ (2 ^ b) ^ i * 2 ^ b = ap (λ (n : ℕ). (2 ^ b) ^ n) (add-one i) ∙ pow_succ' (2 ^ b) i ∙ mul_comm (2 ^ b) ((2 ^ b) ^ i) in
+        let pow : (2 ^ b) ^ (i + 1) ≡ (2 ^ b) ^ i * 2 ^ b = ap (λ (n : ℕ). (2 ^ b) ^ n) (add-one i) ∙ pow-succ' (2 ^ b) i ∙ mul_comm (2 ^ b) ((2 ^ b) ^ i) in
         let e : bits - b + b ≡ bits = omega arith in
         let less : held < 2 ^ (bits - b + b) = rw e p.small in
         record {

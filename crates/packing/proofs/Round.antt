@@ -1,6 +1,6 @@
 -- There and back: packing and unpacking undo each other.
 use Rattle.std.proofs.Common.{◌≡◌, ℕ, zero, suc, ◌+◌, ◌*◌, ◌/◌, ◌%◌, ◌^◌, ◌<◌, ◌≤◌, Bool, true, false, cond, eqb, ltb, List, [], ◌∷◌, length, Ok, Err, Result, sym, refl, ap, ◌∙◌, subst, ap₂, div-lt_iff_lt-mul, arith}
-use native.Mathlib.Nat.{pow-zero, pow_succ', pow-le-pow_right, div-eq_of_lt}
+use native.Mathlib.Nat.{pow-zero, pow-succ', pow-le-pow_right, div-eq_of_lt}
 use Rattle.std.specs.List.{AllByRecursion as All}
 use Rattle.std.proofs.lemmas.Nat.{pow-add, pow_pos}
 use Rattle.std.proofs.ByRecursion.{All-weaker}
@@ -22,7 +22,7 @@ pow_of b zero =
     rw (pow-zero, e)
 pow_of b (suc n) =
     let e : b * suc n ≡ b + b * n = omega arith in
-    pow_succ' (2 ^ b) n ∙ ap (λ (m : ℕ). 2 ^ b * m) (pow_of b n) ∙ sym (rw e (pow-add 2 b (b * n)))
+    pow-succ' (2 ^ b) n ∙ ap (λ (m : ℕ). 2 ^ b * m) (pow_of b n) ∙ sym (rw e (pow-add 2 b (b * n)))
 
 -- k elements fit their bytes
 fit : (b k : ℕ) → (2 ^ b) ^ k ≤ 256 ^ width b k

@@ -1,4 +1,6 @@
 // Packed vectors: elements of a few bits each, one after the other, from the lowest bit of the first byte.
+#![tactic(auto)]
+
 ghost use Rattle.std.specs.Prelude.{◌≡◌, length, Ok, Err};
 ghost use Rattle.refusal.specs.Outcome.{told, written};
 ghost use Rattle.packing.specs.Packed.{width, pack_of, unpack_of, unpack_key_of};

@@ -1,4 +1,6 @@
 // Parameter sets, and the sizes that follow from them.
+#![tactic(auto)]
+
 ghost use Rattle.std.specs.Prelude.{◌≡◌, ◌≤◌, true};
 ghost use Rattle.params.specs.Sets.{good, set_of};
 ghost use Rattle.params.specs.Sizes.{coefficients_of, key_length, signature_length};

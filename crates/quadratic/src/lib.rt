@@ -1,6 +1,8 @@
 // The quadratic map and its polar form, over any field.
 //
 // The coefficients stand equation by equation, and within one: a(i,j) for i from 0 and j from i upward, and then b(i).
+#![tactic(auto)]
+
 ghost use Rattle.std.specs.Prelude.{◌≡◌, ◌*◌, ◌≤◌, length, replicate};
 ghost use Rattle.field.specs.Codes.{Codes};
 ghost use Rattle.algebra.specs.Quad.{size as size_of, F as map_of, G as polar_of};

@@ -1,4 +1,6 @@
 // What a call turns away: one case for each refusal, its three numbers, and its line of text.
+#![tactic(auto)]
+
 ghost use Rattle.std.specs.Prelude.{◌≡◌};
 ghost use Rattle.refusal.specs.Numbers.{numbers_of, layer_of, buffer_of};
 

@@ -1,4 +1,6 @@
 // The scheme: what signing and verification are, that they fit, and what both of them ask of a suite.
+#![tactic(auto)]
+
 ghost use Rattle.std.specs.Prelude.{ℕ, List};
 ghost use Rattle.params.specs.declared.Set.{Set};
 ghost use Rattle.scheme.specs.Fits.{Fits};

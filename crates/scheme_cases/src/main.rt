@@ -1,4 +1,6 @@
 // The test program of signing and verification: both signers side by side, edges, refusals at their place and in their order, and signatures that are wrong in one way.
+#![tactic(auto)]
+
 mod dry;
 mod example;
 mod flips;

@@ -1,4 +1,6 @@
 // The second signer: keys, signatures and verdicts worked out a second time, plainly and over owned vectors, to hold against the kit's.
+#![tactic(auto)]
+
 mod answers;
 mod draws;
 pub mod judge;

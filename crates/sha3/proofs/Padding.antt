@@ -1,5 +1,5 @@
 -- The bits of a padded message.
-use Rattle.std.proofs.Common.{◌≡◌, ℕ, zero, suc, ◌+◌, ◌-◌, ◌*◌, ◌/◌, ◌%◌, ◌<◌, List, [], ◌∷◌, ◌++◌, length, replicate, sym, refl, ap, ◌∙◌, append_assoc, mul_assoc, mul_comm, mul_add, arith, length-append}
+use Rattle.std.proofs.Common.{◌≡◌, ℕ, zero, suc, ◌+◌, ◌-◌, ◌*◌, ◌/◌, ◌%◌, ◌<◌, List, [], ◌∷◌, ◌++◌, length, replicate, sym, refl, ap, ◌∙◌, append_assoc, mul_assoc, mul_comm, mul-add, arith, length-append}
 use native.Mathlib.Nat.{mul-mod_right}
 use Rattle.std.proofs.lemmas.Nat.{mod_below, div-add-mod'}
 use Rattle.std.proofs.lemmas.List.{append-nil, replicate-append-replicate}
@@ -46,7 +46,7 @@ block_count rate suffix m h =
       length_filling suffix (rate - length m % rate),
       mod_below (length m) rate h,
       div-add-mod' (length m) rate,
-      mul_add (8 * rate) (length m / rate) 1,
+      mul-add (8 * rate) (length m / rate) 1,
       mul_assoc 8 rate (length m / rate),
       mul_comm rate (length m / rate),
     )

@@ -5,6 +5,8 @@
 //!
 //! What a hash reads and writes follows the lengths of its parts alone, as the code is written; no contract speaks of time.
 //! Nothing clears the states of a call from the stack.
+#![tactic(auto)]
+
 ghost use Rattle.std.specs.Prelude.{◌≡◌, ◌≤◌, [], ◌∷◌, ◌++◌, length};
 ghost use Rattle.sha3.specs.Fed.{joint};
 ghost use Rattle.sha3.specs.Hash.{sha3_256_of, shake128 as shake, PaddedSha3, PaddedShake, Sha3Bits, ShakeBits};

@@ -1,5 +1,7 @@
 //! Runs the vectors of data/ through every form of SHA3-256 and SHAKE128, and ends with an error at the first that fails.
 //! Of each vector a damaged twin, with one bit of its message flipped, must give something else.
+#![tactic(auto)]
+
 mod forms;
 mod records;
 

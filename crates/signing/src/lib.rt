@@ -1,4 +1,6 @@
 // Signing: the signature of a message under a secret key.
+#![tactic(auto)]
+
 ghost use Rattle.std.specs.Prelude.{◌≡◌, ◌*◌, ◌≤◌, true, length, replicate};
 ghost use Rattle.refusal.specs.Outcome.{told, written};
 ghost use Rattle.field.specs.Coding.{reads};

@@ -1,4 +1,6 @@
 // What a suite promises: a digest and a stream, each a fixed function of what it is asked.
+#![tactic(auto)]
+
 ghost use Rattle.std.specs.Prelude.{◌≡◌, length};
 ghost use Rattle.refusal.specs.Outcome.{told, written};
 ghost use Rattle.suite.specs.Meaning.{Meaning, Lawful};

@@ -1,4 +1,6 @@
 // The bench suite: a digest and a stream that can be worked out by hand. It has no strength.
+#![tactic(auto)]
+
 ghost use Rattle.std.specs.Prelude.{◌≡◌, ℕ, ◌+◌, ◌%◌, ◌^◌, ◌<◌, length, slice_index};
 ghost use Rattle.suite_bench.specs.Sums.{lane, bench_meaning};
 ghost use Rattle.suite_bench.specs.Laws.{bench_lawful};

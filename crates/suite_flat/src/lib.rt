@@ -1,4 +1,6 @@
 // A suite for tests whose digest looks at nothing but the label: it brings every drawing to where it falls short.
+#![tactic(auto)]
+
 ghost use Rattle.suite_flat.specs.Flat.{flat_meaning};
 ghost use Rattle.suite_flat.specs.Laws.{flat_lawful};
 

@@ -1,4 +1,6 @@
 // The Keccak suite: SHA3-256 and SHAKE128 of FIPS 202, each of the label and then what it is asked.
+#![tactic(auto)]
+
 ghost use Rattle.suite_keccak.specs.Hashes.{keccak_meaning};
 ghost use Rattle.suite_keccak.specs.Laws.{keccak_lawful};
 

@@ -1,4 +1,6 @@
 // The suites that a program can be told by name, as one type that is a suite itself.
+#![tactic(auto)]
+
 ghost use Rattle.std.specs.Prelude.{◌≡◌, Some, None, codes, ◌≢◌};
 ghost use Rattle.suites.specs.Named.{meaning_of};
 ghost use Rattle.suite_bench.specs.Laws.{bench_lawful};

@@ -1,4 +1,6 @@
 // Worked cases, shown of the definitions that the contracts cite.
+#![tactic(auto)]
+
 ghost use Rattle.table.specs.Cases.{Cases};
 
 // The cases hold.

@@ -1,4 +1,6 @@
 // Vectors over any field: sums and differences entry by entry, and the packed form.
+#![tactic(auto)]
+
 ghost use Rattle.std.specs.Prelude.{◌≡◌, ◌<◌, length};
 ghost use Rattle.field.specs.Codes.{Codes};
 ghost use Rattle.algebra.specs.Quad.{vadd, vsub, scale};

@@ -1,4 +1,6 @@
 // Verification: whether a signature of a message is accepted under a public key.
+#![tactic(auto)]
+
 ghost use Rattle.std.specs.Prelude.{◌≡◌, ◌*◌, ◌≤◌, true, length, Ok};
 ghost use Rattle.refusal.specs.Outcome.{and_then};
 ghost use Rattle.field.specs.Codes.{Vector};

@@ -1,4 +1,6 @@
 // The layout of a signature, and the check of every vector in it.
+#![tactic(auto)]
+
 ghost use Rattle.std.specs.Prelude.{◌≡◌, ◌+◌, ◌^◌, ◌<◌, ◌≤◌, true, length};
 ghost use Rattle.packing.specs.Packed.{width};
 ghost use Rattle.packing.specs.Laws.{Judges};

@@ -6,12 +6,12 @@ use Rattle.keys.proofs.write_packed.Goals as goal
 
 pub store-requires : goal.store-requires
 store-requires g c =
-    let seed : length c.copy-from-slice.new.self ≡ 32 = omega arith in
+    let seed : length c.copy_from_slice.new.self ≡ 32 = omega arith in
     let long : length c.evaluate.new.out ≡ c.args.m = search rules in
     record {
       codes = c.evaluate.ensures.codes;
       room =
-          behind c.copy-from-slice.new.self (drop 32 c.args.answer.now) 32 seed
+          behind c.copy_from_slice.new.self (drop 32 c.args.answer.now) 32 seed
           ∙ length-drop 32 c.args.answer.now
           ∙ omega (arith, c.requires.room)
           ∙ ap (width g.F.Field.coding.bits) (sym long);
@@ -19,7 +19,7 @@ store-requires g c =
 
 pub returns : goal.returns
 returns g c =
-    let seed : length c.copy-from-slice.new.self ≡ 32 = omega arith in
+    let seed : length c.copy_from_slice.new.self ≡ 32 = omega arith in
     let m : c.evaluate.new.out ≡ F g.F.Field.coding.ops c.args.m (length c.args.x.now) c.args.cs.now c.args.x.now = search rules in
-    two_parts c.copy-from-slice.new.self _ c.store.new.out 32 seed
-    ∙ ap₂ ◌++◌ c.copy-from-slice.ensures.after (c.store.ensures ∙ ap (packed g.F.Field.coding.bits) m)
+    two_parts c.copy_from_slice.new.self _ c.store.new.out 32 seed
+    ∙ ap₂ ◌++◌ c.copy_from_slice.ensures.after (c.store.ensures ∙ ap (packed g.F.Field.coding.bits) m)

@@ -13,7 +13,7 @@ returns-in-Ok c =
     let b : ℕ = c.args.encoding.bits in
     let k : ℕ = length c.args.out.now in
     let bytes : List ℕ = c.args.bytes.now in
-    let a : All (λ x. x < 256) bytes = All-from_get_or (λ x. x < 256) bytes 0 (λ i h. omega (arith, c.type-inv.bytes i)) in
+    let a : All (λ x. x < 256) bytes = All-from_get_or (λ x. x < 256) bytes 0 (λ i h. omega (arith, c.type_inv.bytes i)) in
     let long : length bytes ≡ width b k = c.if-bytes-width.false ∙ c.width.ensures.value in
     let made = c.read.ensures ∙ ap (λ (n : ℕ). elements b n bytes) c.fill.ensures.len in
     let w = reads (key_refusal_of k) (KeyWrong q b k bytes) q b k bytes (judged_key q b k bytes) c.read.new.out c.args.encoding.some c.args.encoding.fits a long (sym c.in-Ok.ensures) made in
@@ -26,5 +26,5 @@ returns-in-Err c =
     let k : ℕ = length c.args.out.now in
     let bytes : List ℕ = c.args.bytes.now in
     let long : length bytes ≡ width b k = c.if-bytes-width.false ∙ c.width.ensures.value in
-    let w = refuses (key_refusal_of k) (KeyWrong q b k bytes) q b k bytes (judged_key q b k bytes) c.fill.new.self c.in-Err.fault c.in-key.result long (sym c.in-Err.ensures) c.in-key.ensures (c.fill.ensures.after (λ y e. e)) in
+    let w = refuses (key_refusal_of k) (KeyWrong q b k bytes) q b k bytes (judged_key q b k bytes) c.fill.new.self c.in-Err.fault c.in_key.result long (sym c.in-Err.ensures) c.in_key.ensures (c.fill.ensures.after (λ y e. e)) in
     record { answer = w.answer; bytes = w.after; law = w.law; judged = λ _. w.judged }

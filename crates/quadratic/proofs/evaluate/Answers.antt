@@ -4,6 +4,6 @@ use Rattle.std.proofs.lemmas.Bool.{false≢true}
 use Rattle.quadratic.proofs.Zeros.{own_zeros}
 use Rattle.quadratic.proofs.evaluate.Goals as goal
 
-pub returns-then-not-all-zero : goal.returns-then-not-all-zero
-returns-then-not-all-zero g c =
-    absurd (false≢true (sym c.if-not-all-zero.true ∙ c.all-zero.ensures (own_zeros c.evaluate-in.new.terms 2144 c.evaluate-in.ensures.zeros)))
+pub returns-then-not-all_zero : goal.returns-then-not-all_zero
+returns-then-not-all_zero g c =
+    absurd (false≢true (sym c.if-not-all_zero.true ∙ c.all_zero.ensures (own_zeros c.evaluate_in.new.terms 2144 c.evaluate_in.ensures.zeros)))

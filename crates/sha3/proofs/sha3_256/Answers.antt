@@ -8,9 +8,9 @@ use Rattle.sha3.proofs.sha3_256.Goals as goal
 
 pub returns : goal.returns
 returns c =
-    let same : c.sha3-256-joint.result ≡ sha3_256_of c.args.message.now = c.sha3-256-joint.ensures ∙ ap sha3_256_of (append-nil c.args.message.now) in
+    let same : c.sha3_256_joint.result ≡ sha3_256_of c.args.message.now = c.sha3_256_joint.ensures ∙ ap sha3_256_of (append-nil c.args.message.now) in
     record {
       digest = same;
       padding = padded_sha3 c.args.message.now;
-      bits = subst (λ (r : List ℕ). Sha3Bits c.args.message.now r) (sym same) (sha3_bits c.args.message.now (λ k. omega (arith, c.type-inv.message k)));
+      bits = subst (λ (r : List ℕ). Sha3Bits c.args.message.now r) (sym same) (sha3_bits c.args.message.now (λ k. omega (arith, c.type_inv.message k)));
     }

@@ -8,4 +8,4 @@ use Rattle.sha3.proofs.sha3_256_joint.Goals as goal
 
 pub returns : goal.returns
 unfolding sha3_256_of
-returns c = c.squeeze.ensures ∙ ap (λ (s : Rows). map (squeezed_byte 136 s) (range_with_len 0 32)) c.take-in-s.ensures
+returns c = c.squeeze.ensures ∙ ap (λ (s : Rows). map (squeezed_byte 136 s) (range_with_len 0 32)) c.take_in-s.ensures

@@ -8,10 +8,10 @@ use Rattle.sha3.proofs.shake128.Goals as goal
 
 pub returns : goal.returns
 returns c =
-    let same : c.shake128-joint.new.out ≡ shake128 c.args.message.now (length c.args.out.now) =
-    c.shake128-joint.ensures ∙ ap (λ (m : List ℕ). shake128 m (length c.args.out.now)) (append-nil c.args.message.now) in
+    let same : c.shake128_joint.new.out ≡ shake128 c.args.message.now (length c.args.out.now) =
+    c.shake128_joint.ensures ∙ ap (λ (m : List ℕ). shake128 m (length c.args.out.now)) (append-nil c.args.message.now) in
     record {
       stream = same;
       padding = padded_shake c.args.message.now;
-      bits = subst (λ (r : List ℕ). ShakeBits c.args.message.now r) (sym same) (shake_bits c.args.message.now (length c.args.out.now) (λ k. omega (arith, c.type-inv.message k)));
+      bits = subst (λ (r : List ℕ). ShakeBits c.args.message.now r) (sym same) (shake_bits c.args.message.now (length c.args.out.now) (λ k. omega (arith, c.type_inv.message k)));
     }

@@ -8,4 +8,4 @@ use Rattle.sha3.proofs.shake128_joint.Goals as goal
 
 pub returns : goal.returns
 unfolding shake128
-returns c = c.squeeze.ensures ∙ ap (λ (s : Rows). map (squeezed_byte 168 s) (range_with_len 0 (length c.args.out.now))) c.take-in-s.ensures
+returns c = c.squeeze.ensures ∙ ap (λ (s : Rows). map (squeezed_byte 168 s) (range_with_len 0 (length c.args.out.now))) c.take_in-s.ensures

@@ -4,6 +4,6 @@ use Rattle.gf31.proofs.Gf31Field.total.Goals as goal
 
 pub returns : goal.returns
 returns c = record {
-  sum = ap (λ (n : ℕ). n % 31) c.whole-sum.ensures.value ∙ whole_dot c.args.cs.now c.args.terms.now;
+  sum = ap (λ (n : ℕ). n % 31) c.whole_sum.ensures.value ∙ whole_dot c.args.cs.now c.args.terms.now;
   code = omega arith;
 }

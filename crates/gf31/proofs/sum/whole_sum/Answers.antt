@@ -4,11 +4,11 @@ use Rattle.gf31.proofs.Bounds.{product_few, at_monomials}
 use Rattle.gf31.proofs.Wholes.{whole_more, whole_all}
 use Rattle.gf31.proofs.sum.whole_sum.Goals as goal
 
-pub overflow-mul-sum : goal.overflow-mul-sum
-overflow-mul-sum c = omega (arith, product_few c.args.cs.now c.args.terms.now c.loop-i.i (omega arith) (omega arith) c.requires.codes c.requires.small)
+pub overflow_mul-sum : goal.overflow_mul-sum
+overflow_mul-sum c = omega (arith, product_few c.args.cs.now c.args.terms.now c.loop-i.i (omega arith) (omega arith) c.requires.codes c.requires.small)
 
-pub overflow-add-sum : goal.overflow-add-sum
-overflow-add-sum c = omega (arith, product_few c.args.cs.now c.args.terms.now c.loop-i.i (omega arith) (omega arith) c.requires.codes c.requires.small)
+pub overflow_add-sum : goal.overflow_add-sum
+overflow_add-sum c = omega (arith, product_few c.args.cs.now c.args.terms.now c.loop-i.i (omega arith) (omega arith) c.requires.codes c.requires.small)
 
 pub loop-i-preserved : goal.loop-i-preserved
 loop-i-preserved c =

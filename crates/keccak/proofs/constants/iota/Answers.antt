@@ -8,9 +8,9 @@ use Rattle.keccak.proofs.constants.iota.Goals as goal
 
 pub returns : goal.returns
 returns c =
-    let same : (c.iota-row.result ∷ get_or c.args.a 1 [] ∷ get_or c.args.a 2 [] ∷ get_or c.args.a 3 [] ∷ get_or c.args.a 4 [] ∷ []) ≡ iota_of c.args.a c.args.i =
+    let same : (c.iota_row.result ∷ get_or c.args.a 1 [] ∷ get_or c.args.a 2 [] ∷ get_or c.args.a 3 [] ∷ get_or c.args.a 4 [] ∷ []) ≡ iota_of c.args.a c.args.i =
     ap (λ (r : List ℕ). r ∷ get_or c.args.a 1 [] ∷ get_or c.args.a 2 [] ∷ get_or c.args.a 3 [] ∷ get_or c.args.a 4 [] ∷ [])
-    (c.iota-row.ensures ∙ ap (iota_row_of (get_or c.args.a 0 [])) c.constant.ensures.value) in
+    (c.iota_row.ensures ∙ ap (iota_row_of (get_or c.args.a 0 [])) c.constant.ensures.value) in
     record {
       lanes = same;
       bits = subst (λ (r : Rows). IotaBits c.args.a c.args.i r) (sym same)

@@ -10,7 +10,7 @@ returns-then-from-encoding c =
     let e : c.from.result ≡ get_or c.args.v.now c.loop-i.i 0 = c.from.ensures in
     let g : c.args.encoding.order ≤ get_or c.args.v.now c.loop-i.i 0 = omega (arith, c.if-from-encoding.true) in
     let w : (n : ℕ) → Result (Unit {0}) Refusal = λ n. Err (Element n) in
-    ap w c.byte-of.ensures.value ∙ sym (no_code c.args.encoding.order c.args.encoding.bits c.args.v.now c.loop-i.i c.loop-i.invariant c.loop-i-test.true g)
+    ap w c.byte_of.ensures.value ∙ sym (no_code c.args.encoding.order c.args.encoding.bits c.args.v.now c.loop-i.i c.loop-i.invariant c.loop-i-test.true g)
 
 pub loop-i-preserved : goal.loop-i-preserved
 loop-i-preserved c =

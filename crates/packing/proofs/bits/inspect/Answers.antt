@@ -15,8 +15,8 @@ loop-i-init c = (omega arith, read_none c.args.encoding.bits c.args.k c.args.byt
 pub bounds-bytes-j : goal.bounds-bytes-j
 bounds-bytes-j c = byte_in c.loop-i.invariant.1 c.loop-i-test.true c.if-bits-encoding.true
 
-pub overflow-add-j : goal.overflow-add-j
-overflow-add-j c = omega (arith, byte_in c.loop-i.invariant.1 c.loop-i-test.true c.if-bits-encoding.true)
+pub overflow_add-j : goal.overflow_add-j
+overflow_add-j c = omega (arith, byte_in c.loop-i.invariant.1 c.loop-i-test.true c.if-bits-encoding.true)
 
 -- after the test for the bits of one element
 ready : (c : Joined-bits-encoding) → (c.args.encoding.bits ≤ c.if-bits-encoding.bits) × (c.if-bits-encoding.bits < c.args.encoding.bits + 8) × Reading c.args.encoding.bits c.args.k c.args.bytes.now c.loop-i.i c.if-bits-encoding.j c.if-bits-encoding.held c.if-bits-encoding.bits
@@ -26,7 +26,7 @@ ready c =
           let p = c.loop-i.invariant.1 in
           let x : ℕ = w.from.result in
           let e : x ≡ get_or c.args.bytes.now c.loop-i.j 0 = w.from.ensures in
-          let l : x < 256 = omega (arith, c.type-inv.bytes c.loop-i.j) in
+          let l : x < 256 = omega (arith, c.type_inv.bytes c.loop-i.j) in
           let h : c.loop-i.j < length c.args.bytes.now = byte_in p c.loop-i-test.true w.if-bits-encoding.true in
           let shl : (x * 2 ^ c.loop-i.bits) % 2 ^ 32 ≡ x * 2 ^ c.loop-i.bits = shl_whole x 8 c.loop-i.bits 32 l (omega arith) in
           let or = or_above c.loop-i.held x c.loop-i.bits p.small in

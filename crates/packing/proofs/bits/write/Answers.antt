@@ -23,8 +23,8 @@ inside c =
 pub bounds-out-j : goal.bounds-out-j
 bounds-out-j c = inside c
 
-pub overflow-add-j : goal.overflow-add-j
-overflow-add-j c = omega (arith, inside c)
+pub overflow_add-j : goal.overflow_add-j
+overflow_add-j c = omega (arith, inside c)
 
 pub loop-x-preserved : goal.loop-x-preserved
 loop-x-preserved c =

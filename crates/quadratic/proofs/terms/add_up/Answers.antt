@@ -6,11 +6,11 @@ use Rattle.field.specs.Terms.{dot}
 use Rattle.quadratic.proofs.Parts.{part_fits, place_few, part_length, part_codes, dot_part}
 use Rattle.quadratic.proofs.terms.add_up.Goals as goal
 
-pub overflow-mul-at : goal.overflow-mul-at
-overflow-mul-at g c = omega (arith, place_few c.loop-k.k (length c.args.out.now) c.args.step c.loop-k-test.true c.requires.few c.requires.short)
+pub overflow_mul-at : goal.overflow_mul-at
+overflow_mul-at g c = omega (arith, place_few c.loop-k.k (length c.args.out.now) c.args.step c.loop-k-test.true c.requires.few c.requires.short)
 
-pub slice-bounds-total-end : goal.slice-bounds-total-end
-slice-bounds-total-end g c =
+pub slice_bounds-total-end : goal.slice_bounds-total-end
+slice_bounds-total-end g c =
     part_fits c.loop-k.k (length c.args.out.now) c.args.step (length c.args.terms.now) (length c.args.cs.now) c.loop-k-test.true c.requires.within c.requires.len
 
 pub total-requires : goal.total-requires

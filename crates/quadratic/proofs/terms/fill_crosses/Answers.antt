@@ -10,14 +10,14 @@ loop-i-init g c = none_yet
 pub loop-j-init : goal.loop-j-init
 loop-j-init g c = same_left (cross_in g.F.Field.coding.ops c.args.x.now c.args.y.now c.loop-i.i c.loop-i-test.true c.requires.same) c.loop-i.invariant
 
-pub offset-bounds-terms-at : goal.offset-bounds-terms-at
-offset-bounds-terms-at g c = omega (arith, cross_room g.F.Field.coding c.args.x.now c.args.y.now c.requires.short c.requires.same c.loop-i.i c.loop-j.j c.loop-j-test.true c.loop-j.invariant)
+pub offset_bounds-terms-at : goal.offset_bounds-terms-at
+offset_bounds-terms-at g c = omega (arith, cross_room g.F.Field.coding c.args.x.now c.args.y.now c.requires.short c.requires.same c.loop-i.i c.loop-j.j c.loop-j-test.true c.loop-j.invariant)
 
 pub bounds-terms-at : goal.bounds-terms-at
 bounds-terms-at g c = omega (arith, cross_room g.F.Field.coding c.args.x.now c.args.y.now c.requires.short c.requires.same c.loop-i.i c.loop-j.j c.loop-j-test.true c.loop-j.invariant)
 
-pub overflow-add-at : goal.overflow-add-at
-overflow-add-at g c = omega (arith, cross_room g.F.Field.coding c.args.x.now c.args.y.now c.requires.short c.requires.same c.loop-i.i c.loop-j.j c.loop-j-test.true c.loop-j.invariant)
+pub overflow_add-at : goal.overflow_add-at
+overflow_add-at g c = omega (arith, cross_room g.F.Field.coding c.args.x.now c.args.y.now c.requires.short c.requires.same c.loop-i.i c.loop-j.j c.loop-j-test.true c.loop-j.invariant)
 
 pub loop-j-preserved : goal.loop-j-preserved
 loop-j-preserved g c =

@@ -10,14 +10,14 @@ loop-i-init g c = none_yet
 pub loop-j-init : goal.loop-j-init
 loop-j-init g c = same_left (row_in g.F.Field.coding.ops c.args.x.now c.loop-i.i c.loop-i-test.true) c.loop-i.invariant
 
-pub offset-bounds-terms-at : goal.offset-bounds-terms-at
-offset-bounds-terms-at g c = omega (arith, pair_room g.F.Field.coding c.args.x.now c.requires.short c.loop-i.i c.loop-j.j c.loop-j-test.true c.loop-j.invariant)
+pub offset_bounds-terms-at : goal.offset_bounds-terms-at
+offset_bounds-terms-at g c = omega (arith, pair_room g.F.Field.coding c.args.x.now c.requires.short c.loop-i.i c.loop-j.j c.loop-j-test.true c.loop-j.invariant)
 
 pub bounds-terms-at : goal.bounds-terms-at
 bounds-terms-at g c = omega (arith, pair_room g.F.Field.coding c.args.x.now c.requires.short c.loop-i.i c.loop-j.j c.loop-j-test.true c.loop-j.invariant)
 
-pub overflow-add-at : goal.overflow-add-at
-overflow-add-at g c = omega (arith, pair_room g.F.Field.coding c.args.x.now c.requires.short c.loop-i.i c.loop-j.j c.loop-j-test.true c.loop-j.invariant)
+pub overflow_add-at : goal.overflow_add-at
+overflow_add-at g c = omega (arith, pair_room g.F.Field.coding c.args.x.now c.requires.short c.loop-i.i c.loop-j.j c.loop-j-test.true c.loop-j.invariant)
 
 pub loop-j-preserved : goal.loop-j-preserved
 loop-j-preserved g c =
@@ -30,14 +30,14 @@ loop-i-preserved g c = same_left (row_out g.F.Field.coding.ops c.args.x.now c.lo
 pub loop-k-init : goal.loop-k-init
 loop-k-init g c = same_left (rows_out g.F.Field.coding.ops c.args.x.now c.loop-i.i c.loop-i-test.false) c.loop-i.invariant
 
-pub offset-bounds-terms-at-in-loop-k : goal.offset-bounds-terms-at-in-loop-k
-offset-bounds-terms-at-in-loop-k g c = omega (arith, entry_room g.F.Field.coding c.args.x.now c.requires.short c.loop-k.k c.loop-k-test.true c.loop-k.invariant)
+pub offset_bounds-terms-at-in-loop-k : goal.offset_bounds-terms-at-in-loop-k
+offset_bounds-terms-at-in-loop-k g c = omega (arith, entry_room g.F.Field.coding c.args.x.now c.requires.short c.loop-k.k c.loop-k-test.true c.loop-k.invariant)
 
 pub bounds-terms-at-in-loop-k : goal.bounds-terms-at-in-loop-k
 bounds-terms-at-in-loop-k g c = omega (arith, entry_room g.F.Field.coding c.args.x.now c.requires.short c.loop-k.k c.loop-k-test.true c.loop-k.invariant)
 
-pub overflow-add-at-in-loop-k : goal.overflow-add-at-in-loop-k
-overflow-add-at-in-loop-k g c = omega (arith, entry_room g.F.Field.coding c.args.x.now c.requires.short c.loop-k.k c.loop-k-test.true c.loop-k.invariant)
+pub overflow_add-at-in-loop-k : goal.overflow_add-at-in-loop-k
+overflow_add-at-in-loop-k g c = omega (arith, entry_room g.F.Field.coding c.args.x.now c.requires.short c.loop-k.k c.loop-k-test.true c.loop-k.invariant)
 
 pub loop-k-preserved : goal.loop-k-preserved
 loop-k-preserved g c =

@@ -14,7 +14,7 @@ pub loop-i-preserved : goal.loop-i-preserved
 loop-i-preserved c =
     c.permute-next.ensures.lanes
     ∙ ap keccak_f
-    (c.with-block.ensures
-    ∙ ap (λ (p : List ℕ). block_added c.args.rate p c.loop-i.s) c.rest-of.ensures.bytes
+    (c.with_block.ensures
+    ∙ ap (λ (p : List ℕ). block_added c.args.rate p c.loop-i.s) c.rest_of.ensures.bytes
     ∙ ap (λ (s : Rows). block_added c.args.rate (drop (c.loop-i.i * c.args.rate) (fed c.args.input)) s) c.loop-i.invariant)
     ∙ sym (absorbed_more c.args.rate (fed c.args.input) c.loop-i.i)

@@ -6,5 +6,5 @@ use Rattle.sha3.proofs.absorb.front_block.Goals as goal
 
 pub returns-then-rate-input : goal.returns-then-rate-input
 returns-then-rate-input c =
-    c.whole-block.ensures
+    c.whole_block.ensures
     ∙ block_in_head c.args.rate c.args.input.label.now c.args.input.head.now c.args.input.tail.now (filling c.args.input.suffix c.args.input.q) c.requires.whole (omega arith) (omega arith)

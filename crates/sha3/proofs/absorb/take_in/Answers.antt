@@ -12,8 +12,8 @@ few n rate h k = div_below n rate (2 ^ 61) (omega arith) (omega (arith, mul-le (
 within : (n rate i : ℕ) → i < n / rate + 1 → i * rate ≤ n
 within n rate i h = omega (arith, mul-le i rate (n / rate) rate (omega arith) (omega arith), div-add-mod' n rate)
 
-pub overflow-add-len-3 : goal.overflow-add-len-3
-overflow-add-len-3 c =
+pub overflow_add-len-3 : goal.overflow_add-len-3
+overflow_add-len-3 c =
     omega (arith, few (length c.args.label.now + length c.args.head.now + length c.args.tail.now) c.args.rate (omega arith) c.requires.rate)
 
 pub absorb-requires : goal.absorb-requires

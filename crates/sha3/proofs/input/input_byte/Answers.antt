@@ -18,5 +18,5 @@ returns-then-j-input c =
 
 pub returns : goal.returns
 returns c =
-    c.filling-byte.ensures
+    c.filling_byte.ensures
     ∙ sym (in_filling c.args.input.label.now c.args.input.head.now c.args.input.tail.now (filling c.args.input.suffix c.args.input.q) c.args.k (omega arith) (omega arith) (omega arith))

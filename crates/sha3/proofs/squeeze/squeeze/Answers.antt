@@ -24,11 +24,11 @@ loop-i-init c = (sym (later_none c.args.start), λ k h. absurd (omega arith))
 pub returns-then-len-eq0 : goal.returns-then-len-eq0
 returns-then-len-eq0 c = fill_by_all (squeezed_byte c.args.rate c.args.start) c.args.out.now (length c.args.out.now) 0 refl (λ k h. absurd (omega arith))
 
-pub overflow-mul-i : goal.overflow-mul-i
-overflow-mul-i c = omega (arith, ends (length c.args.out.now) c.args.rate c.loop-i.i c.loop-i-test.true)
+pub overflow_mul-i : goal.overflow_mul-i
+overflow_mul-i c = omega (arith, ends (length c.args.out.now) c.args.rate c.loop-i.i c.loop-i-test.true)
 
-pub put-lanes-requires : goal.put-lanes-requires
-put-lanes-requires c =
+pub put_lanes-requires : goal.put_lanes-requires
+put_lanes-requires c =
     record {
       lanes = omega (arith, c.requires.high);
       room = omega (arith, ends (length c.args.out.now) c.args.rate c.loop-i.i c.loop-i-test.true, c.loop-i.auto.out);
@@ -38,16 +38,16 @@ pub loop-i-preserved : goal.loop-i-preserved
 loop-i-preserved c = (
   c.permute-next.ensures.lanes ∙ ap keccak_f c.loop-i.invariant.0 ∙ sym (later_more c.args.start c.loop-i.i),
   λ k h.
-      blocks_more c.args.rate c.loop-i.i c.args.rate c.loop-i.s c.args.start c.loop-i.out c.put-lanes.new.out c.loop-i.invariant.0 (omega arith)
-      c.loop-i.invariant.1 c.put-lanes.ensures.before (λ j l. c.put-lanes.ensures.bytes j (omega (arith, c.requires.lanes))) k
+      blocks_more c.args.rate c.loop-i.i c.args.rate c.loop-i.s c.args.start c.loop-i.out c.put_lanes.new.out c.loop-i.invariant.0 (omega arith)
+      c.loop-i.invariant.1 c.put_lanes.ensures.before (λ j l. c.put_lanes.ensures.bytes j (omega (arith, c.requires.lanes))) k
       (omega (arith, h, add-mul c.loop-i.i 1 c.args.rate)),
 )
 
-pub overflow-mul-blocks : goal.overflow-mul-blocks
-overflow-mul-blocks c = omega (arith, starts (length c.args.out.now) c.args.rate)
+pub overflow_mul-blocks : goal.overflow_mul-blocks
+overflow_mul-blocks c = omega (arith, starts (length c.args.out.now) c.args.rate)
 
-pub put-rest-requires : goal.put-rest-requires
-put-rest-requires c =
+pub put_rest-requires : goal.put_rest-requires
+put_rest-requires c =
     record {
       at = omega (arith, starts (length c.args.out.now) c.args.rate, c.loop-i.auto.out);
       room = omega (arith, left (length c.args.out.now) c.args.rate c.requires.low, c.loop-i.auto.out, c.requires.high);
@@ -56,13 +56,13 @@ put-rest-requires c =
 pub returns : goal.returns
 returns c =
     let e : c.loop-i.i ≡ (length c.args.out.now - 1) / c.args.rate = omega (arith, c.loop-i-test.false, c.loop-i.auto.i-end) in
-    fill_by_all (squeezed_byte c.args.rate c.args.start) c.put-rest.new.out (length c.args.out.now) 0 (c.put-rest.auto.out ∙ c.loop-i.auto.out)
+    fill_by_all (squeezed_byte c.args.rate c.args.start) c.put_rest.new.out (length c.args.out.now) 0 (c.put_rest.auto.out ∙ c.loop-i.auto.out)
     (λ k h.
     blocks_more c.args.rate ((length c.args.out.now - 1) / c.args.rate) (length c.args.out.now - (length c.args.out.now - 1) / c.args.rate * c.args.rate)
-    c.loop-i.s c.args.start c.loop-i.out c.put-rest.new.out
+    c.loop-i.s c.args.start c.loop-i.out c.put_rest.new.out
     (c.loop-i.invariant.0 ∙ ap (λ (i : ℕ). later i c.args.start) e)
     (omega (arith, left (length c.args.out.now) c.args.rate c.requires.low))
     (λ j l. c.loop-i.invariant.1 j (subst (λ (i : ℕ). j < i * c.args.rate) (sym e) l))
-    c.put-rest.ensures.before
-    (λ j l. c.put-rest.ensures.bytes j (omega (arith, l, c.loop-i.auto.out)))
+    c.put_rest.ensures.before
+    (λ j l. c.put_rest.ensures.bytes j (omega (arith, l, c.loop-i.auto.out)))
     k (omega (arith, h, starts (length c.args.out.now) c.args.rate)))

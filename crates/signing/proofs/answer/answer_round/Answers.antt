@@ -8,16 +8,16 @@ use Rattle.signing.proofs.Going.{not_ok}
 use Rattle.signing.proofs.Pools.{cut_front, of_front, of_r0, of_t0, of_e0, answered}
 use Rattle.signing.proofs.answer.answer_round.Goals as goal
 
-pub returns-in-err-draw-round : goal.returns-in-err-draw-round
-returns-in-err-draw-round g c =
+pub returns-in_err-draw_round : goal.returns-in_err-draw_round
+returns-in_err-draw_round g c =
     let p = err_from_is_err_and c.from-residual.result c.from-residual.ensures.1 in
-    rw (p.1, p.2) (record { answer = c.in-err-draw-round.ensures.answer; bytes = λ h. not_ok _ h })
+    rw (p.1, p.2) (record { answer = c.in_err-draw_round.ensures.answer; bytes = λ h. not_ok _ h })
 
-pub answer-drawn-requires : goal.answer-drawn-requires
-answer-drawn-requires g c =
+pub answer_drawn-requires : goal.answer_drawn-requires
+answer_drawn-requires g c =
     let q : ℕ = g.F.Field.coding.q in
-    let p : List ℕ = take (pool_size c.args.set - 0) c.draw-round.new.pool in
-    let d : Elements q (pool_size c.args.set) p = of_front q (pool_size c.args.set) c.draw-round.new.pool (c.in-ok-draw-round.ensures.elements refl) in
+    let p : List ℕ = take (pool_size c.args.set - 0) c.draw_round.new.pool in
+    let d : Elements q (pool_size c.args.set) p = of_front q (pool_size c.args.set) c.draw_round.new.pool (c.in_ok-draw_round.ensures.elements refl) in
     record {
       good = c.requires.good;
       cs = c.requires.cs;
@@ -34,10 +34,10 @@ returns g c =
     let C : Coding = g.F.Field.coding in
     let M : Meaning = g.S.Suite.meaning c.args.suite.now in
     let n : ℕ = pool_size c.args.set in
-    let p : List ℕ = take (n - 0) c.draw-round.new.pool in
-    let d : Elements C.q n p = of_front C.q n c.draw-round.new.pool (c.in-ok-draw-round.ensures.elements refl) in
-    let e : p ≡ pool C M c.args.set c.args.k.now c.args.d.now c.args.round = cut_front n c.draw-round.new.pool ∙ c.in-ok-draw-round.ensures.front refl in
+    let p : List ℕ = take (n - 0) c.draw_round.new.pool in
+    let d : Elements C.q n p = of_front C.q n c.draw_round.new.pool (c.in_ok-draw_round.ensures.elements refl) in
+    let e : p ≡ pool C M c.args.set c.args.k.now c.args.d.now c.args.round = cut_front n c.draw_round.new.pool ∙ c.in_ok-draw_round.ensures.front refl in
     record {
-      answer = c.in-ok-draw-round.ensures.answer;
-      bytes = λ _. c.answer-drawn.ensures ∙ answered C c.args.set p d c.args.cs.now c.args.alpha ∙ ap (λ (x : List ℕ). first_answer C c.args.set c.args.cs.now x c.args.alpha) e;
+      answer = c.in_ok-draw_round.ensures.answer;
+      bytes = λ _. c.answer_drawn.ensures ∙ answered C c.args.set p d c.args.cs.now c.args.alpha ∙ ap (λ (x : List ℕ). first_answer C c.args.set c.args.cs.now x c.args.alpha) e;
     }

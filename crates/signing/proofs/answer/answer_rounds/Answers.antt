@@ -14,13 +14,13 @@ sized b n m r x y b' len p q e l = l ∙ ap (λ (k : ℕ). r * k) (sym (counted_
 pub loop-i-init : goal.loop-i-init
 loop-i-init g c = going_none _ _ _ _ _ _ _ _
 
-pub slice-bounds-answer-round-end : goal.slice-bounds-answer-round-end
-slice-bounds-answer-round-end g c =
+pub slice_bounds-answer_round-end : goal.slice_bounds-answer_round-end
+slice_bounds-answer_round-end g c =
     let l = sized g.F.Field.coding.bits c.args.set.n c.args.set.m c.args.set.r c.width.result c.width-2.result c.encoding-encoding.result.bits (length c.args.out.now) c.width.ensures.value c.width-2.ensures.value c.encoding-encoding.ensures.bits c.requires.out in
     room_for g.F.Field.coding (g.S.Suite.meaning c.args.suite.now) c.args.set c.args.k.now c.args.d.now (c.width.result + c.width-2.result) c.loop-i.i c.loop-i.out c.loop-i-test.true (c.loop-i.auto.out ∙ l)
 
-pub answer-round-requires : goal.answer-round-requires
-answer-round-requires g c =
+pub answer_round-requires : goal.answer_round-requires
+answer_round-requires g c =
     let b = bounds c.args.set c.requires.good in
     let l = sized g.F.Field.coding.bits c.args.set.n c.args.set.m c.args.set.r c.width.result c.width-2.result c.encoding-encoding.result.bits (length c.args.out.now) c.width.ensures.value c.width-2.ensures.value c.encoding-encoding.ensures.bits c.requires.out in
     let room = room_for g.F.Field.coding (g.S.Suite.meaning c.args.suite.now) c.args.set c.args.k.now c.args.d.now (c.width.result + c.width-2.result) c.loop-i.i c.loop-i.out c.loop-i-test.true (c.loop-i.auto.out ∙ l) in
@@ -34,11 +34,11 @@ answer-round-requires g c =
       out = part_long c.loop-i.out _ (c.width.result + c.width-2.result) room ∙ counted_both g.F.Field.coding.bits c.args.set.n c.args.set.m c.width.result c.width-2.result c.encoding-encoding.result.bits c.width.ensures.value c.width-2.ensures.value c.encoding-encoding.ensures.bits;
     }
 
-pub returns-in-err-answer-round : goal.returns-in-err-answer-round
-returns-in-err-answer-round g c =
+pub returns-in_err-answer_round : goal.returns-in_err-answer_round
+returns-in_err-answer_round g c =
     let p = err_from_is_err_and c.from-residual.result c.from-residual.ensures.1 in
     rw (p.1, p.2) (record {
-      answer = going_stops _ _ _ _ _ c.loop-i.invariant c.loop-i-test.true _ c.in-err-answer-round.ensures.answer;
+      answer = going_stops _ _ _ _ _ c.loop-i.invariant c.loop-i-test.true _ c.in_err-answer_round.ensures.answer;
       bytes = λ h. not_ok _ h;
     })
 
@@ -46,7 +46,7 @@ pub loop-i-preserved : goal.loop-i-preserved
 loop-i-preserved g c =
     let l = sized g.F.Field.coding.bits c.args.set.n c.args.set.m c.args.set.r c.width.result c.width-2.result c.encoding-encoding.result.bits (length c.args.out.now) c.width.ensures.value c.width-2.ensures.value c.encoding-encoding.ensures.bits c.requires.out in
     let room = room_for g.F.Field.coding (g.S.Suite.meaning c.args.suite.now) c.args.set c.args.k.now c.args.d.now (c.width.result + c.width-2.result) c.loop-i.i c.loop-i.out c.loop-i-test.true (c.loop-i.auto.out ∙ l) in
-    going_more _ _ _ _ _ c.loop-i.invariant c.loop-i-test.true c.answer-round.new.out _ c.in-ok-answer-round.ensures.answer (c.loop-i.auto.out ∙ l) (c.answer-round.auto.out ∙ part_long c.loop-i.out _ (c.width.result + c.width-2.result) room) (c.in-ok-answer-round.ensures.bytes refl)
+    going_more _ _ _ _ _ c.loop-i.invariant c.loop-i-test.true c.answer_round.new.out _ c.in_ok-answer_round.ensures.answer (c.loop-i.auto.out ∙ l) (c.answer_round.auto.out ∙ part_long c.loop-i.out _ (c.width.result + c.width-2.result) room) (c.in_ok-answer_round.ensures.bytes refl)
 
 pub returns : goal.returns
 unfolding answers

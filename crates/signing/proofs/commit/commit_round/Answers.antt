@@ -7,17 +7,17 @@ use Rattle.signing.proofs.Going.{not_ok}
 use Rattle.signing.proofs.Pools.{cut_front, of_front}
 use Rattle.signing.proofs.commit.commit_round.Goals as goal
 
-pub returns-in-err-draw-round : goal.returns-in-err-draw-round
-returns-in-err-draw-round g c =
+pub returns-in_err-draw_round : goal.returns-in_err-draw_round
+returns-in_err-draw_round g c =
     let p = err_from_is_err_and c.from-residual.result c.from-residual.ensures.1 in
-    rw (p.1, p.2) (record { answer = c.in-err-draw-round.ensures.answer; bytes = λ h. not_ok _ h })
+    rw (p.1, p.2) (record { answer = c.in_err-draw_round.ensures.answer; bytes = λ h. not_ok _ h })
 
-pub commit-drawn-requires : goal.commit-drawn-requires
-commit-drawn-requires g c = record {
+pub commit_drawn-requires : goal.commit_drawn-requires
+commit_drawn-requires g c = record {
   good = c.requires.good;
   cs = c.requires.cs;
   s = c.requires.s;
-  pool = of_front g.F.Field.coding.q (pool_size c.args.set) c.draw-round.new.pool (c.in-ok-draw-round.ensures.elements refl);
+  pool = of_front g.F.Field.coding.q (pool_size c.args.set) c.draw_round.new.pool (c.in_ok-draw_round.ensures.elements refl);
   work = c.requires.work;
   out = c.requires.out;
 }
@@ -26,8 +26,8 @@ pub returns : goal.returns
 returns g c =
     let C : Coding = g.F.Field.coding in
     let M : Meaning = g.S.Suite.meaning c.args.suite.now in
-    let e : take (pool_size c.args.set - 0) c.draw-round.new.pool ≡ pool C M c.args.set c.args.k.now c.args.d.now c.args.round = cut_front (pool_size c.args.set) c.draw-round.new.pool ∙ c.in-ok-draw-round.ensures.front refl in
+    let e : take (pool_size c.args.set - 0) c.draw_round.new.pool ≡ pool C M c.args.set c.args.k.now c.args.d.now c.args.round = cut_front (pool_size c.args.set) c.draw_round.new.pool ∙ c.in_ok-draw_round.ensures.front refl in
     record {
-      answer = c.in-ok-draw-round.ensures.answer;
-      bytes = λ _. c.commit-drawn.ensures ∙ ap (λ (p : List ℕ). c0 C M c.args.set p ++ c1 C M c.args.set c.args.cs.now c.args.s.now p) e;
+      answer = c.in_ok-draw_round.ensures.answer;
+      bytes = λ _. c.commit_drawn.ensures ∙ ap (λ (p : List ℕ). c0 C M c.args.set p ++ c1 C M c.args.set c.args.cs.now c.args.s.now p) e;
     }

@@ -11,6 +11,6 @@ written xs a b h =
 
 pub returns : goal.returns
 returns c =
-    let long : length c.copy-from-slice.new.self ≡ 32 = omega arith in
-    written c.copy-from-slice.new.self (c.args.round % 256) (c.args.round / 256) long
-    ∙ ap (λ (t : List ℕ). t ++ two c.args.round) c.copy-from-slice.ensures.after
+    let long : length c.copy_from_slice.new.self ≡ 32 = omega arith in
+    written c.copy_from_slice.new.self (c.args.round % 256) (c.args.round / 256) long
+    ∙ ap (λ (t : List ℕ). t ++ two c.args.round) c.copy_from_slice.ensures.after

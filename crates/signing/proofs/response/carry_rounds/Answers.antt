@@ -12,7 +12,7 @@ loop-i-init c = written_none (of_round c.args.list.now c.args.bits.now) 32 c.arg
 
 pub loop-i-preserved : goal.loop-i-preserved
 loop-i-preserved c =
-    written_more (of_round c.args.list.now c.args.bits.now) 32 c.loop-i.i c.loop-i.out c.carry-round.new.out _ c.loop-i.invariant (omega (arith, round_room c.loop-i.i c.args.set.r 32 c.loop-i-test.true)) (omega arith) c.carry-round.ensures
+    written_more (of_round c.args.list.now c.args.bits.now) 32 c.loop-i.i c.loop-i.out c.carry_round.new.out _ c.loop-i.invariant (omega (arith, round_room c.loop-i.i c.args.set.r 32 c.loop-i-test.true)) (omega arith) c.carry_round.ensures
 
 pub returns : goal.returns
 returns c = written_all (of_round c.args.list.now c.args.bits.now) 32 c.args.set.r c.loop-i.i c.loop-i.out c.loop-i.invariant (omega arith) (c.loop-i.auto.out ∙ c.requires.out)

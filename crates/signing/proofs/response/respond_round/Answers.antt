@@ -11,19 +11,19 @@ use Rattle.signing.proofs.Going.{not_ok}
 use Rattle.signing.proofs.Pools.{cut_front, of_front, of_r0, cut_r0}
 use Rattle.signing.proofs.response.respond_round.Goals as goal
 
-pub returns-in-err-draw-round : goal.returns-in-err-draw-round
-returns-in-err-draw-round g c =
+pub returns-in_err-draw_round : goal.returns-in_err-draw_round
+returns-in_err-draw_round g c =
     let p = err_from_is_err_and c.from-residual.result c.from-residual.ensures.1 in
-    rw (p.1, p.2) (record { answer = c.in-err-draw-round.ensures.answer; bytes = λ h. not_ok _ h })
+    rw (p.1, p.2) (record { answer = c.in_err-draw_round.ensures.answer; bytes = λ h. not_ok _ h })
 
-pub respond-drawn-requires : goal.respond-drawn-requires
-respond-drawn-requires g c =
+pub respond_drawn-requires : goal.respond_drawn-requires
+respond_drawn-requires g c =
     let q : ℕ = g.F.Field.coding.q in
-    let p : List ℕ = take (pool_size c.args.set - 0) c.draw-round.new.pool in
+    let p : List ℕ = take (pool_size c.args.set - 0) c.draw_round.new.pool in
     record {
       good = c.requires.good;
       s = c.requires.s;
-      r0 = of_r0 q c.args.set p (of_front q (pool_size c.args.set) c.draw-round.new.pool (c.in-ok-draw-round.ensures.elements refl));
+      r0 = of_r0 q c.args.set p (of_front q (pool_size c.args.set) c.draw_round.new.pool (c.in_ok-draw_round.ensures.elements refl));
       work = c.requires.work;
       out = c.requires.out;
     }
@@ -33,12 +33,12 @@ returns g c =
     let C : Coding = g.F.Field.coding in
     let M : Meaning = g.S.Suite.meaning c.args.suite.now in
     let n : ℕ = pool_size c.args.set in
-    let p : List ℕ = take (n - 0) c.draw-round.new.pool in
-    let d : Elements C.q n p = of_front C.q n c.draw-round.new.pool (c.in-ok-draw-round.ensures.elements refl) in
-    let e : p ≡ pool C M c.args.set c.args.k.now c.args.d.now c.args.round = cut_front n c.draw-round.new.pool ∙ c.in-ok-draw-round.ensures.front refl in
+    let p : List ℕ = take (n - 0) c.draw_round.new.pool in
+    let d : Elements C.q n p = of_front C.q n c.draw_round.new.pool (c.in_ok-draw_round.ensures.elements refl) in
+    let e : p ≡ pool C M c.args.set c.args.k.now c.args.d.now c.args.round = cut_front n c.draw_round.new.pool ∙ c.in_ok-draw_round.ensures.front refl in
     record {
-      answer = c.in-ok-draw-round.ensures.answer;
-      bytes = λ _. c.respond-drawn.ensures
+      answer = c.in_ok-draw_round.ensures.answer;
+      bytes = λ _. c.respond_drawn.ensures
           ∙ ap (λ (x : List ℕ). packed C.bits (chosen_by_bit c.args.bit x (vsub C.ops c.args.set.n c.args.s.now x))) (cut_r0 C.q c.args.set p d)
           ∙ ap (λ (x : List ℕ). packed C.bits (chosen_by_bit c.args.bit (r0 c.args.set x) (r1 C c.args.set c.args.s.now x))) e;
     }

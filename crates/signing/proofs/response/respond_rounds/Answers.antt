@@ -14,13 +14,13 @@ sized b n r x b' len p e l = l ∙ ap (λ (k : ℕ). r * k) (sym (counted_one b 
 pub loop-i-init : goal.loop-i-init
 loop-i-init g c = going_none _ _ _ _ _ _ _ _
 
-pub slice-bounds-respond-round-end : goal.slice-bounds-respond-round-end
-slice-bounds-respond-round-end g c =
+pub slice_bounds-respond_round-end : goal.slice_bounds-respond_round-end
+slice_bounds-respond_round-end g c =
     let l = sized g.F.Field.coding.bits c.args.set.n c.args.set.r c.width-size.result c.encoding-encoding.result.bits (length c.args.out.now) c.width-size.ensures.value c.encoding-encoding.ensures.bits c.requires.out in
     room_for g.F.Field.coding (g.S.Suite.meaning c.args.suite.now) c.args.set c.args.k.now c.args.d.now c.width-size.result c.loop-i.i c.loop-i.out c.loop-i-test.true (c.loop-i.auto.out ∙ l)
 
-pub respond-round-requires : goal.respond-round-requires
-respond-round-requires g c =
+pub respond_round-requires : goal.respond_round-requires
+respond_round-requires g c =
     let b = bounds c.args.set c.requires.good in
     let l = sized g.F.Field.coding.bits c.args.set.n c.args.set.r c.width-size.result c.encoding-encoding.result.bits (length c.args.out.now) c.width-size.ensures.value c.encoding-encoding.ensures.bits c.requires.out in
     let room = room_for g.F.Field.coding (g.S.Suite.meaning c.args.suite.now) c.args.set c.args.k.now c.args.d.now c.width-size.result c.loop-i.i c.loop-i.out c.loop-i-test.true (c.loop-i.auto.out ∙ l) in
@@ -33,11 +33,11 @@ respond-round-requires g c =
       out = part_long c.loop-i.out _ c.width-size.result room ∙ counted_one g.F.Field.coding.bits c.args.set.n c.width-size.result c.encoding-encoding.result.bits c.width-size.ensures.value c.encoding-encoding.ensures.bits;
     }
 
-pub returns-in-err-respond-round : goal.returns-in-err-respond-round
-returns-in-err-respond-round g c =
+pub returns-in_err-respond_round : goal.returns-in_err-respond_round
+returns-in_err-respond_round g c =
     let p = err_from_is_err_and c.from-residual.result c.from-residual.ensures.1 in
     rw (p.1, p.2) (record {
-      answer = going_stops _ _ _ _ _ c.loop-i.invariant c.loop-i-test.true _ c.in-err-respond-round.ensures.answer;
+      answer = going_stops _ _ _ _ _ c.loop-i.invariant c.loop-i-test.true _ c.in_err-respond_round.ensures.answer;
       bytes = λ h. not_ok _ h;
     })
 
@@ -45,7 +45,7 @@ pub loop-i-preserved : goal.loop-i-preserved
 loop-i-preserved g c =
     let l = sized g.F.Field.coding.bits c.args.set.n c.args.set.r c.width-size.result c.encoding-encoding.result.bits (length c.args.out.now) c.width-size.ensures.value c.encoding-encoding.ensures.bits c.requires.out in
     let room = room_for g.F.Field.coding (g.S.Suite.meaning c.args.suite.now) c.args.set c.args.k.now c.args.d.now c.width-size.result c.loop-i.i c.loop-i.out c.loop-i-test.true (c.loop-i.auto.out ∙ l) in
-    going_more _ _ _ _ _ c.loop-i.invariant c.loop-i-test.true c.respond-round.new.out _ c.in-ok-respond-round.ensures.answer (c.loop-i.auto.out ∙ l) (c.respond-round.auto.out ∙ part_long c.loop-i.out _ c.width-size.result room) (c.in-ok-respond-round.ensures.bytes refl)
+    going_more _ _ _ _ _ c.loop-i.invariant c.loop-i-test.true c.respond_round.new.out _ c.in_ok-respond_round.ensures.answer (c.loop-i.auto.out ∙ l) (c.respond_round.auto.out ∙ part_long c.loop-i.out _ c.width-size.result room) (c.in_ok-respond_round.ensures.bytes refl)
 
 pub returns : goal.returns
 unfolding responses

@@ -14,7 +14,7 @@ loop-i-init c = written_none (joint c.args.encoding.bits c.args.set c.args.signa
 
 pub loop-i-preserved : goal.loop-i-preserved
 loop-i-preserved c =
-    written_more (joint c.args.encoding.bits c.args.set c.args.signature.now c.args.half.now c.args.bits.now) 64 c.loop-i.i c.loop-i.list c.join-round.new.out _ c.loop-i.invariant (omega (arith, round_room c.loop-i.i c.args.set.r 64 c.loop-i-test.true)) (omega arith) c.join-round.ensures
+    written_more (joint c.args.encoding.bits c.args.set c.args.signature.now c.args.half.now c.args.bits.now) 64 c.loop-i.i c.loop-i.list c.join_round.new.out _ c.loop-i.invariant (omega (arith, round_room c.loop-i.i c.args.set.r 64 c.loop-i-test.true)) (omega arith) c.join_round.ensures
 
 pub returns : goal.returns
 returns c = written_all (joint c.args.encoding.bits c.args.set c.args.signature.now c.args.half.now c.args.bits.now) 64 c.args.set.r c.loop-i.i c.loop-i.list c.loop-i.invariant (omega arith) (c.loop-i.auto.list ∙ c.requires.list)

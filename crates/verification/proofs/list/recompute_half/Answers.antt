@@ -6,8 +6,8 @@ use Rattle.verification.proofs.list.recompute_half.Goals as goal
 pub loop-i-init : goal.loop-i-init
 loop-i-init g c = written_none _ 32 c.args.half.now
 
-pub recompute-round-opened-requires : goal.recompute-round-opened-requires
-recompute-round-opened-requires g c = record {
+pub recompute_round-opened-requires : goal.recompute_round-opened-requires
+recompute_round-opened-requires g c = record {
   good = c.requires.good;
   cs = c.requires.cs;
   v = c.requires.v;
@@ -21,7 +21,7 @@ recompute-round-opened-requires g c = record {
 pub loop-i-preserved : goal.loop-i-preserved
 unfolding recomputed
 loop-i-preserved g c =
-    written_more _ 32 c.loop-i.i c.loop-i.half c.copy-from-slice.new.self _ c.loop-i.invariant (omega (arith, round_room c.loop-i.i c.args.set.r 32 c.loop-i-test.true)) (omega arith) (c.copy-from-slice.ensures.after ∙ c.recompute-round-opened.ensures)
+    written_more _ 32 c.loop-i.i c.loop-i.half c.copy_from_slice.new.self _ c.loop-i.invariant (omega (arith, round_room c.loop-i.i c.args.set.r 32 c.loop-i-test.true)) (omega arith) (c.copy_from_slice.ensures.after ∙ c.recompute_round-opened.ensures)
 
 pub returns : goal.returns
 returns g c = written_all _ 32 c.args.set.r c.loop-i.i c.loop-i.half c.loop-i.invariant (omega arith) (c.loop-i.auto.half ∙ c.requires.half)

@@ -9,8 +9,8 @@ use Rattle.verification.proofs.opening.open_packed.Goals as goal
 held : (b n : ℕ) (out bytes : List ℕ) → n ≤ 64 → out ≡ elements b (length (take (n - 0) (replicate {A = ℕ} 64 0))) bytes → out ≡ elements b n bytes
 held b n out bytes h e = loaded_is b n (take (n - 0) (replicate {A = ℕ} 64 0)) out bytes e (front_long n (replicate {A = ℕ} 64 0) h)
 
-pub open-0-requires : goal.open-0-requires
-open-0-requires g c =
+pub open_0-requires : goal.open_0-requires
+open_0-requires g c =
     let k = bounds c.args.set c.requires.good in
     let q : ℕ = g.F.Field.coding.q in
     let b : ℕ = g.F.Field.coding.bits in
@@ -28,12 +28,12 @@ pub returns-then-bit-eq0 : goal.returns-then-bit-eq0
 returns-then-bit-eq0 g c =
     let k = bounds c.args.set c.requires.good in
     let b : ℕ = g.F.Field.coding.bits in
-    c.open-0.ensures
+    c.open_0.ensures
     ∙ opened_0 g.F.Field.coding (g.S.Suite.meaning c.args.suite.now) c.args.set c.args.cs.now c.args.v.now c.args.alpha c.args.bit _ _ _ _ _ _
     (held b _ _ _ k.few_n c.load.ensures) (held b _ _ _ k.few_m c.load-2.ensures) (held b _ _ _ k.few_n c.load-3.ensures) c.if-bit-eq0.true
 
-pub open-1-requires : goal.open-1-requires
-open-1-requires g c =
+pub open_1-requires : goal.open_1-requires
+open_1-requires g c =
     let k = bounds c.args.set c.requires.good in
     let q : ℕ = g.F.Field.coding.q in
     let b : ℕ = g.F.Field.coding.bits in
@@ -53,6 +53,6 @@ returns-else-bit-eq0 g c =
     let k = bounds c.args.set c.requires.good in
     let b : ℕ = g.F.Field.coding.bits in
     let one : c.args.bit ≡ 1 = omega (arith, c.requires.bit, c.if-bit-eq0.false) in
-    c.open-1.ensures
+    c.open_1.ensures
     ∙ opened_1 g.F.Field.coding (g.S.Suite.meaning c.args.suite.now) c.args.set c.args.cs.now c.args.v.now c.args.alpha c.args.bit _ _ _ _ _ _
     (held b _ _ _ k.few_n c.load.ensures) (held b _ _ _ k.few_m c.load-2.ensures) (held b _ _ _ k.few_n c.load-3.ensures) one

@@ -11,37 +11,37 @@ use Rattle.verification.proofs.opening.recompute_round.Goals as goal
 over : (f : List ℕ → List ℕ → List ℕ → List ℕ) {t t' e e' r r' : List ℕ} → t ≡ t' → e ≡ e' → r ≡ r' → f t e r ≡ f t' e' r'
 over f p q s = cc
 
-pub slice-bounds-open-packed-end : goal.slice-bounds-open-packed-end
-slice-bounds-open-packed-end g c =
+pub slice_bounds-open_packed-end : goal.slice_bounds-open_packed-end
+slice_bounds-open_packed-end g c =
     let b : ℕ = g.F.Field.coding.bits in
-    let ex = counted b c.args.set.n c.width-of-n.result c.encoding-encoding.result.bits c.width-of-n.ensures.value c.encoding-encoding.ensures.bits in
-    let ey = counted b c.args.set.m c.width-of-m.result c.encoding-encoding.result.bits c.width-of-m.ensures.value c.encoding-encoding.ensures.bits in
+    let ex = counted b c.args.set.n c.width-of_n.result c.encoding-encoding.result.bits c.width-of_n.ensures.value c.encoding-encoding.ensures.bits in
+    let ey = counted b c.args.set.m c.width-of_m.result c.encoding-encoding.result.bits c.width-of_m.ensures.value c.encoding-encoding.ensures.bits in
     t1_fits b c.args.set _ _ c.args.round ex ey (length c.args.signature.now) c.requires.round c.requires.long
 
-pub slice-bounds-open-packed-end-2 : goal.slice-bounds-open-packed-end-2
-slice-bounds-open-packed-end-2 g c =
+pub slice_bounds-open_packed-end-2 : goal.slice_bounds-open_packed-end-2
+slice_bounds-open_packed-end-2 g c =
     let b : ℕ = g.F.Field.coding.bits in
-    let ex = counted b c.args.set.n c.width-of-n.result c.encoding-encoding.result.bits c.width-of-n.ensures.value c.encoding-encoding.ensures.bits in
-    let ey = counted b c.args.set.m c.width-of-m.result c.encoding-encoding.result.bits c.width-of-m.ensures.value c.encoding-encoding.ensures.bits in
+    let ex = counted b c.args.set.n c.width-of_n.result c.encoding-encoding.result.bits c.width-of_n.ensures.value c.encoding-encoding.ensures.bits in
+    let ey = counted b c.args.set.m c.width-of_m.result c.encoding-encoding.result.bits c.width-of_m.ensures.value c.encoding-encoding.ensures.bits in
     e1_fits b c.args.set _ _ c.args.round ex ey (length c.args.signature.now) c.requires.round c.requires.long
 
-pub slice-bounds-open-packed-end-3 : goal.slice-bounds-open-packed-end-3
-slice-bounds-open-packed-end-3 g c =
+pub slice_bounds-open_packed-end-3 : goal.slice_bounds-open_packed-end-3
+slice_bounds-open_packed-end-3 g c =
     let b : ℕ = g.F.Field.coding.bits in
-    let ex = counted b c.args.set.n c.width-of-n.result c.encoding-encoding.result.bits c.width-of-n.ensures.value c.encoding-encoding.ensures.bits in
-    let ey = counted b c.args.set.m c.width-of-m.result c.encoding-encoding.result.bits c.width-of-m.ensures.value c.encoding-encoding.ensures.bits in
+    let ex = counted b c.args.set.n c.width-of_n.result c.encoding-encoding.result.bits c.width-of_n.ensures.value c.encoding-encoding.ensures.bits in
+    let ey = counted b c.args.set.m c.width-of_m.result c.encoding-encoding.result.bits c.width-of_m.ensures.value c.encoding-encoding.ensures.bits in
     response_fits b c.args.set _ _ c.args.round ex ey (length c.args.signature.now) c.requires.round c.requires.long
 
-pub open-packed-requires : goal.open-packed-requires
-open-packed-requires g c =
+pub open_packed-requires : goal.open_packed-requires
+open_packed-requires g c =
     let q : ℕ = g.F.Field.coding.q in
     let b : ℕ = g.F.Field.coding.bits in
     let sig : List ℕ = c.args.signature.now in
     let i : ℕ = c.args.round in
-    let x : ℕ = c.width-of-n.result in
-    let y : ℕ = c.width-of-m.result in
-    let ex = counted b c.args.set.n x c.encoding-encoding.result.bits c.width-of-n.ensures.value c.encoding-encoding.ensures.bits in
-    let ey = counted b c.args.set.m y c.encoding-encoding.result.bits c.width-of-m.ensures.value c.encoding-encoding.ensures.bits in
+    let x : ℕ = c.width-of_n.result in
+    let y : ℕ = c.width-of_m.result in
+    let ex = counted b c.args.set.n x c.encoding-encoding.result.bits c.width-of_n.ensures.value c.encoding-encoding.ensures.bits in
+    let ey = counted b c.args.set.m y c.encoding-encoding.result.bits c.width-of_m.ensures.value c.encoding-encoding.ensures.bits in
     let codes = scanned_codes q b c.args.set sig c.requires.good g.met.F.Field.coded.some c.requires.lawful i c.requires.round in
     record {
       good = c.requires.good;
@@ -49,9 +49,9 @@ open-packed-requires g c =
       v = c.requires.v;
       alpha = c.requires.alpha;
       bit = c.requires.bit;
-      of-t = cut_long sig (64 + i * (x + y)) x _ (t1_fits b c.args.set x y i ex ey (length sig) c.requires.round c.requires.long) ex;
-      of-e = cut_long sig (64 + i * (x + y) + x) y _ (e1_fits b c.args.set x y i ex ey (length sig) c.requires.round c.requires.long) ey;
-      of-r = cut_long sig (64 + c.args.set.r * (x + y) + i * x) x _ (response_fits b c.args.set x y i ex ey (length sig) c.requires.round c.requires.long) ex;
+      of_t = cut_long sig (64 + i * (x + y)) x _ (t1_fits b c.args.set x y i ex ey (length sig) c.requires.round c.requires.long) ex;
+      of_e = cut_long sig (64 + i * (x + y) + x) y _ (e1_fits b c.args.set x y i ex ey (length sig) c.requires.round c.requires.long) ey;
+      of_r = cut_long sig (64 + c.args.set.r * (x + y) + i * x) x _ (response_fits b c.args.set x y i ex ey (length sig) c.requires.round c.requires.long) ex;
       t = cut_codes q b c.args.set.n sig (64 + i * (x + y)) x _ _ (t1_at_lem b c.args.set x y i ex ey) ex codes.t;
       e = cut_codes q b c.args.set.m sig (64 + i * (x + y) + x) y _ _ (e1_at_lem b c.args.set x y i ex ey) ey codes.e;
       r = cut_codes q b c.args.set.n sig (64 + c.args.set.r * (x + y) + i * x) x _ _ (response_at_lem b c.args.set x y i ex ey) ex codes.r;
@@ -66,12 +66,12 @@ returns g c =
     let m : ℕ = c.args.set.m in
     let sig : List ℕ = c.args.signature.now in
     let i : ℕ = c.args.round in
-    let x : ℕ = c.width-of-n.result in
-    let y : ℕ = c.width-of-m.result in
-    let ex = counted b n x c.encoding-encoding.result.bits c.width-of-n.ensures.value c.encoding-encoding.ensures.bits in
-    let ey = counted b m y c.encoding-encoding.result.bits c.width-of-m.ensures.value c.encoding-encoding.ensures.bits in
+    let x : ℕ = c.width-of_n.result in
+    let y : ℕ = c.width-of_m.result in
+    let ex = counted b n x c.encoding-encoding.result.bits c.width-of_n.ensures.value c.encoding-encoding.ensures.bits in
+    let ey = counted b m y c.encoding-encoding.result.bits c.width-of_m.ensures.value c.encoding-encoding.ensures.bits in
     let et = cut sig (64 + i * (x + y)) x (t1_at b c.args.set i) (width b n) (t1_at_lem b c.args.set x y i ex ey) ex in
     let ee = cut sig (64 + i * (x + y) + x) y (e1_at b c.args.set i) (width b m) (e1_at_lem b c.args.set x y i ex ey) ey in
     let er = cut sig (64 + c.args.set.r * (x + y) + i * x) x (response_at b c.args.set i) (width b n) (response_at_lem b c.args.set x y i ex ey) ex in
-    c.open-packed.ensures
+    c.open_packed.ensures
     ∙ over (λ (t e r : List ℕ). M.d c.args.bit (opened C c.args.set c.args.cs.now c.args.v.now c.args.alpha (elements b n t) (elements b m e) (elements b n r) c.args.bit)) et ee er
