@@ -16,7 +16,7 @@ returns-in_err-draw g c =
     let K : Coding = g.F.Field.coding in
     let M : Meaning = g.S.Suite.meaning c.args.suite.now in
     let b = bounds c.args.set c.requires.good in
-    let p = err_from_is_err_and c.from-residual.result c.from-residual.ensures.1 in
+    let p = err_from_is_err_and c.from_residual.result c.from_residual.ensures.1 in
     let d = draw_stops K M 9 c.args.k.now c.args.set.n (length c.args.secret.now) (secret_room c.args.set.n (length c.args.secret.now) b.few_n c.requires.secret) (drawn_limit c.args.set.n (omega (arith, b.few_n))) _ c.in_err-draw.ensures.answer in
     let e = secret_stops K M c.args.set c.args.k.now c.args.s.now _ d in
     rw (p.1, p.2) (record { answer = sym (ap told e); bytes = c.requires.zeros ∙ sym (ap (written (length c.args.answer.now)) e) })
@@ -28,7 +28,7 @@ returns-in_err-draw-2 g c =
     let b = bounds c.args.set c.requires.good in
     let count : ℕ = c.coefficients-count.result in
     let is : count ≡ coefficients_of c.args.set = c.coefficients-count.ensures.value in
-    let p = err_from_is_err_and c.from-residual-in_err-draw-2.result c.from-residual-in_err-draw-2.ensures.1 in
+    let p = err_from_is_err_and c.from_residual-in_err-draw-2.result c.from_residual-in_err-draw-2.ensures.1 in
     let f9 = draw_gives K M 9 c.args.k.now c.args.set.n (length c.args.secret.now) (secret_room c.args.set.n (length c.args.secret.now) b.few_n c.requires.secret) (drawn_limit c.args.set.n (omega (arith, b.few_n))) c.draw.new.buffer c.in_ok-draw.ensures.answer c.in_ok-draw.ensures.front c.in_ok-draw.ensures.law in
     let room : reads count ≤ length c.args.map.now = rw is c.requires.map in
     let d = draw_stops K M 8 c.args.s.now count (length c.args.map.now) room (drawn_limit count c.coefficients-count.ensures.few) _ c.in_err-draw-2.ensures.answer in

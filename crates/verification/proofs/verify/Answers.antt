@@ -11,7 +11,7 @@ pub returns-in_err-check_call : goal.returns-in_err-check_call
 returns-in_err-check_call g c =
     let C : Coding = g.F.Field.coding in
     let M : Meaning = g.S.Suite.meaning c.args.suite.now in
-    let p = err_from_is_err_and c.from-residual.result c.from-residual.ensures.1 in
+    let p = err_from_is_err_and c.from_residual.result c.from_residual.ensures.1 in
     let e = checks_stop C M c.args.set c.args.message.now (length c.args.map.now) (length c.args.list.now) c.args.key.now c.args.signature.now _ c.in_err-check_call.ensures in
     rw (p.1, p.2) (record {
       answer = e;

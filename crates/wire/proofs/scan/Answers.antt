@@ -26,7 +26,7 @@ check_vector-requires c =
 
 pub returns-in_err-check_vector : goal.returns-in_err-check_vector
 returns-in_err-check_vector c =
-    let p = err_from_is_err_and c.from-residual.result c.from-residual.ensures.1 in
+    let p = err_from_is_err_and c.from_residual.result c.from_residual.ensures.1 in
     rw (p.1, p.2) (t1_stop c.loop-i.invariant c.loop-i-test.true _ (sym c.in_err-check_vector.ensures))
 
 pub check_vector-requires-in-loop-i : goal.check_vector-requires-in-loop-i
@@ -43,7 +43,7 @@ module _ (q b : ℕ) (sig : List ℕ) (at p n m : ℕ) (e : p ≡ width b n) (r 
 
 pub returns-in_err-check_vector-2 : goal.returns-in_err-check_vector-2
 returns-in_err-check_vector-2 c =
-    let p = err_from_is_err_and c.from-residual-in_err-check_vector-2.result c.from-residual-in_err-check_vector-2.ensures.1 in
+    let p = err_from_is_err_and c.from_residual-in_err-check_vector-2.result c.from_residual-in_err-check_vector-2.ensures.1 in
     let f = there _ _ c.args.signature.now _ _ c.args.set.n _ c.width-of_n.ensures.value _ (sym c.in_err-check_vector-2.ensures) in
     rw (p.1, p.2) (e1_stop c.loop-i.invariant c.loop-i-test.true (sym c.in_ok-check_vector.ensures) _ f)
 
@@ -65,7 +65,7 @@ check_vector-requires-in-loop-j c =
 
 pub returns-in_err-check_vector-3 : goal.returns-in_err-check_vector-3
 returns-in_err-check_vector-3 c =
-    let p = err_from_is_err_and c.from-residual-in_err-check_vector-3.result c.from-residual-in_err-check_vector-3.ensures.1 in
+    let p = err_from_is_err_and c.from_residual-in_err-check_vector-3.result c.from_residual-in_err-check_vector-3.ensures.1 in
     rw (p.1, p.2) (response_stop c.loop-j.invariant c.loop-j-test.true _ (sym c.in_err-check_vector-3.ensures))
 
 pub overflow_add-at-in-loop-j : goal.overflow_add-at-in-loop-j

@@ -10,7 +10,7 @@ use Rattle.signing.proofs.answer.answer_round.Goals as goal
 
 pub returns-in_err-draw_round : goal.returns-in_err-draw_round
 returns-in_err-draw_round g c =
-    let p = err_from_is_err_and c.from-residual.result c.from-residual.ensures.1 in
+    let p = err_from_is_err_and c.from_residual.result c.from_residual.ensures.1 in
     rw (p.1, p.2) (record { answer = c.in_err-draw_round.ensures.answer; bytes = λ h. not_ok _ h })
 
 pub answer_drawn-requires : goal.answer_drawn-requires

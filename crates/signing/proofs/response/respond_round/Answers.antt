@@ -13,7 +13,7 @@ use Rattle.signing.proofs.response.respond_round.Goals as goal
 
 pub returns-in_err-draw_round : goal.returns-in_err-draw_round
 returns-in_err-draw_round g c =
-    let p = err_from_is_err_and c.from-residual.result c.from-residual.ensures.1 in
+    let p = err_from_is_err_and c.from_residual.result c.from_residual.ensures.1 in
     rw (p.1, p.2) (record { answer = c.in_err-draw_round.ensures.answer; bytes = λ h. not_ok _ h })
 
 pub respond_drawn-requires : goal.respond_drawn-requires

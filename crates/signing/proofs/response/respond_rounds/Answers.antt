@@ -35,7 +35,7 @@ respond_round-requires g c =
 
 pub returns-in_err-respond_round : goal.returns-in_err-respond_round
 returns-in_err-respond_round g c =
-    let p = err_from_is_err_and c.from-residual.result c.from-residual.ensures.1 in
+    let p = err_from_is_err_and c.from_residual.result c.from_residual.ensures.1 in
     rw (p.1, p.2) (record {
       answer = going_stops _ _ _ _ _ c.loop-i.invariant c.loop-i-test.true _ c.in_err-respond_round.ensures.answer;
       bytes = λ h. not_ok _ h;

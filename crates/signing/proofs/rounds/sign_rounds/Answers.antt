@@ -13,7 +13,7 @@ pub returns-in_err-commit_rounds : goal.returns-in_err-commit_rounds
 returns-in_err-commit_rounds g c =
     let C : Coding = g.F.Field.coding in
     let M : Meaning = g.S.Suite.meaning c.args.suite.now in
-    let p = err_from_is_err_and c.from-residual.result c.from-residual.ensures.1 in
+    let p = err_from_is_err_and c.from_residual.result c.from_residual.ensures.1 in
     let o = pools_stop C M c.args.set c.args.cs.now c.args.s.now c.args.k.now c.args.randomizer.now c.args.d.now _ c.in_err-commit_rounds.ensures.answer in
     let w = comes_refused _ (length c.args.answer.now) _ c.args.answer.now o c.requires.zeros in
     rw (p.1, p.2) (record { answer = w.answer; bytes = w.held })
@@ -22,7 +22,7 @@ pub returns-in_err-draw_into : goal.returns-in_err-draw_into
 returns-in_err-draw_into g c =
     let C : Coding = g.F.Field.coding in
     let M : Meaning = g.S.Suite.meaning c.args.suite.now in
-    let p = err_from_is_err_and c.from-residual-in_err-draw_into.result c.from-residual-in_err-draw_into.ensures.1 in
+    let p = err_from_is_err_and c.from_residual-in_err-draw_into.result c.from_residual-in_err-draw_into.ensures.1 in
     let b = base_is C M c.args.set c.args.cs.now c.args.s.now c.args.k.now c.args.randomizer.now c.args.d.now c.commit_rounds.new.list c.hash-base.result (c.in_ok-commit_rounds.ensures.list refl) c.hash-base.ensures in
     let o = alphas_stop C M c.args.set c.args.cs.now c.args.s.now c.args.k.now c.args.randomizer.now c.args.d.now c.hash-base.result c.hash-h1.result b c.hash-h1.ensures _ c.in_ok-commit_rounds.ensures.answer c.in_err-draw_into.ensures.answer in
     let w = comes_refused _ (length c.args.answer.now) _ c.args.answer.now o c.requires.zeros in

@@ -17,7 +17,7 @@ behind n ys xs l = ap (λ (k : ℕ). drop (reads n) (ys ++ drop k xs)) (sub-zero
 
 pub returns-in_err-stream : goal.returns-in_err-stream
 returns-in_err-stream g c =
-    let p = err_from_is_err_and c.from-residual.result c.from-residual.ensures.1 in
+    let p = err_from_is_err_and c.from_residual.result c.from_residual.ensures.1 in
     let n : ℕ = c.args.count in
     let xs : List ℕ = c.args.buffer.now in
     let h : reads n ≤ length xs = omega arith in
