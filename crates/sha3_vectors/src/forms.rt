@@ -9,16 +9,16 @@ pub enum Hash {
 
 // Whether each form of SHA3-256 gives `expected`.
 fn sha3_gives(message: &[u8], expected: &[u8]) -> bool {
-    if sha3::sha3_256(message) != expected {
+    if sha3::sha3_256(message).as_slice() != expected {
         return false;
     }
     let [label, rest @ ..] = message else {
         return true;
     };
     let (head, tail) = rest.split_at(rest.len() / 3);
-    sha3::sha3_256_parts(*label, head, tail) == expected
-        && sha3::sha3_256_parts(*label, rest, &[]) == expected
-        && sha3::sha3_256_parts(*label, &[], rest) == expected
+    sha3::sha3_256_parts(*label, head, tail).as_slice() == expected
+        && sha3::sha3_256_parts(*label, rest, &[]).as_slice() == expected
+        && sha3::sha3_256_parts(*label, &[], rest).as_slice() == expected
 }
 
 // Whether each form of SHAKE128 gives `expected`.
