@@ -1,12 +1,12 @@
 // The test program: edges and refusals of the kit's calls, each at its place and in its order.
 #![tactic(auto)]
 
-mod keys;
-mod suites;
+mod key_cases;
+mod suite_cases;
 mod tally;
 
-use crate::keys::{run_check, run_make};
-use crate::suites::{run_draws, run_limits};
+use crate::key_cases::{run_check, run_make};
+use crate::suite_cases::{run_draws, run_limits};
 use std::io;
 use tally::Tally;
 

@@ -1,7 +1,7 @@
 // The words of the command line.
 use crate::ask::{run_digest, run_stream};
 use crate::demo::run_demo;
-use crate::keys::{run_checkkey, run_key};
+use crate::key_commands::{run_checkkey, run_key};
 use crate::scan::run_scan;
 use crate::signatures::{run_sign, run_verify};
 use params::Set;

@@ -1,6 +1,6 @@
 // The command `demo`: a message from its key to the verdict on its signature, and the verdict on a damaged twin.
 use crate::files::{read_up_to, refused, unreadable};
-use crate::keys::{make, say_made};
+use crate::key_commands::{make, say_made};
 use crate::signatures::{say_signed, say_verdict, sign_message, verify_message};
 use field::Field;
 use gf31::Gf31;

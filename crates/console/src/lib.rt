@@ -5,6 +5,6 @@ pub mod ask;
 pub mod command;
 pub mod demo;
 pub mod files;
-pub mod keys;
+pub mod key_commands;
 pub mod scan;
 pub mod signatures;

@@ -60,8 +60,7 @@ fn put(a: State, lanes: &mut [u64])
 }
 
 /// Keccak-f[1600] on 25 lanes, `times` times. Status 1 unless there are 25; they are zeros then.
-#[unsafe(no_mangle)]
-pub extern "C" fn beltscarp_keccak_f(lanes: &mut [u64], times: usize) -> u32
+pub fn beltscarp_keccak_f(lanes: &mut [u64], times: usize) -> u32
     ensures status { result ≡ status_of (permute_call lanes.old times) }
     ensures lanes { lanes.new ≡ bytes_of (length lanes.old) (permute_call lanes.old times) }
 {
@@ -74,8 +73,7 @@ pub extern "C" fn beltscarp_keccak_f(lanes: &mut [u64], times: usize) -> u32
 }
 
 /// SHA3-256 of a message. Status 1 unless `out` has 32 bytes; they are zeros then.
-#[unsafe(no_mangle)]
-pub extern "C" fn beltscarp_sha3_256(message: &[u8], out: &mut [u8]) -> u32
+pub fn beltscarp_sha3_256(message: &[u8], out: &mut [u8]) -> u32
     ensures status { result ≡ status_of (digest_call message.now (length out.old)) }
     ensures digest { out.new ≡ bytes_of (length out.old) (digest_call message.now (length out.old)) }
     ensures padding { result ≡ 0 → PaddedSha3 message.now }
@@ -90,8 +88,7 @@ pub extern "C" fn beltscarp_sha3_256(message: &[u8], out: &mut [u8]) -> u32
 }
 
 /// Fills `out` with the first bytes of SHAKE128 of a message.
-#[unsafe(no_mangle)]
-pub extern "C" fn beltscarp_shake128(message: &[u8], out: &mut [u8])
+pub fn beltscarp_shake128(message: &[u8], out: &mut [u8])
     ensures stream { out.new ≡ shake message.now (length out.old) }
     ensures padding { PaddedShake message.now }
     ensures bits { ShakeBits message.now out.new }

@@ -1,4 +1,5 @@
-//! What C and Rust programs link: hashes, the map, key making, signing and verification.
+//! What programs of other languages call, over numbers and slices alone: hashes, the map, key making, signing and verification.
+//! `export_c` is the same functions as a static library for C.
 //!
 //! A slice crosses as a pointer and then a length. No function asks anything of its numbers, lengths and bytes: what cannot be
 //! answered is refused by a status. The caller owes what a reference owes: memory of that length, and no two buffers that overlap
@@ -6,7 +7,7 @@
 #![tactic(auto)]
 
 mod calls;
-mod hashes;
-mod keys;
-mod maps;
-mod signatures;
+pub mod hashes;
+pub mod key_calls;
+pub mod maps;
+pub mod signatures;

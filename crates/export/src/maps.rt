@@ -29,8 +29,7 @@ fn fits(coefficients: usize, n: usize, m: usize) -> bool
 /// F(x), in as many variables as `x` has entries and as many equations as `out` has places. The coefficients stand equation by
 /// equation: a(i,j) for i from 0 and j from i upward, and then b(i). Status 1, and zeros in `out`, unless there are at most 64 of
 /// both, the number of coefficients fits, and all entries are below 31.
-#[unsafe(no_mangle)]
-pub extern "C" fn beltscarp_map(coefficients: &[u8], x: &[u8], out: &mut [u8]) -> u32
+pub fn beltscarp_map(coefficients: &[u8], x: &[u8], out: &mut [u8]) -> u32
     ensures status { result ≡ status_of (map_call coefficients.now x.now (length out.old)) }
     ensures value { out.new ≡ bytes_of (length out.old) (map_call coefficients.now x.now (length out.old)) }
 {
@@ -44,8 +43,7 @@ pub extern "C" fn beltscarp_map(coefficients: &[u8], x: &[u8], out: &mut [u8]) -
 }
 
 /// G(x, y) = F(x + y) - F(x) - F(y), refused as F is, and where `y` has not as many entries as `x`.
-#[unsafe(no_mangle)]
-pub extern "C" fn beltscarp_polar(coefficients: &[u8], x: &[u8], y: &[u8], out: &mut [u8]) -> u32
+pub fn beltscarp_polar(coefficients: &[u8], x: &[u8], y: &[u8], out: &mut [u8]) -> u32
     ensures status { result ≡ status_of (polar_call coefficients.now x.now y.now (length out.old)) }
     ensures value { out.new ≡ bytes_of (length out.old) (polar_call coefficients.now x.now y.now (length out.old)) }
 {

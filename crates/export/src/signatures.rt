@@ -16,8 +16,7 @@ use verification::verify;
 /// The signature of a message under a secret key. Status 0: `answer` is the signature. Status 1: refused, and `told` has number, layer
 /// and place. Status 2: no such suite, or `told` has not three places. `answer` and `told` are zeros where nothing else is said.
 /// `secret` is zeros, every byte, however the call ends.
-#[unsafe(no_mangle)]
-pub extern "C" fn beltscarp_sign(
+pub fn beltscarp_sign(
     suite: u32,
     n: usize,
     m: usize,
@@ -50,8 +49,7 @@ pub extern "C" fn beltscarp_sign(
 
 /// Whether a signature of a message is accepted under a public key. Status 0: accepted. Status 1: refused, and `told` has number,
 /// layer and place. Status 2: no such suite, or `told` has not three places. `told` is zeros where nothing else is said.
-#[unsafe(no_mangle)]
-pub extern "C" fn beltscarp_verify(
+pub fn beltscarp_verify(
     suite: u32,
     n: usize,
     m: usize,

@@ -20,8 +20,7 @@ use wire::check_vectors;
 /// The public key of a secret key. Status 0: `answer` is the key. Status 1: refused, and `told` has number, layer and place.
 /// Status 2: no such suite, or `told` has not three places. `answer` and `told` are zeros where nothing else is said. `secret` is zeros,
 /// every byte, however the call ends.
-#[unsafe(no_mangle)]
-pub extern "C" fn beltscarp_make_key(
+pub fn beltscarp_make_key(
     suite: u32,
     n: usize,
     m: usize,
@@ -52,8 +51,7 @@ pub extern "C" fn beltscarp_make_key(
 
 /// The check of a signature's set, length and vectors. Status 0: lawful. Status 1: refused, and `told` has number, layer and place.
 /// Status 2: `told` has not three places. `told` is zeros where nothing else is said.
-#[unsafe(no_mangle)]
-pub extern "C" fn beltscarp_check_vectors(
+pub fn beltscarp_check_vectors(
     n: usize,
     m: usize,
     r: usize,
