@@ -4,7 +4,7 @@ use Rattle.std.proofs.lemmas.List.FromFn.{fill_by_all, get_or-map-range_with_len
 use Rattle.field.specs.Ring.{Ops, Laws, sub}
 use Rattle.algebra.specs.Quad.{eqn, size, at, tab, vadd, vsub, scale, F, G}
 use Rattle.algebra.proofs.Group.{semi, diffs, close, same}
-use Rattle.algebra.proofs.Polar.{eqn_cong, geq, geq_is, pol_add, pol_mul, pol_sub, round_complete, round_extract}
+use Rattle.algebra.proofs.Polar.{eqn_cong, geq, geq_is, pol_add, pol_mul, round_complete, round_extract}
 
 module _ {A : Type 0} (o : Ops A) where
   pub at_tab : (n : ℕ) (f : ℕ → A) (k : ℕ) → k < n → at o (tab o n f) k ≡ f k

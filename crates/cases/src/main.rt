@@ -8,9 +8,10 @@ mod tally;
 use crate::key_cases::{run_check, run_make};
 use crate::suite_cases::{run_draws, run_limits};
 use std::io;
+use std::process::ExitCode;
 use tally::Tally;
 
-fn main(rt: HostRuntime) -> Result<(), io::Error> {
+fn main(rt: HostRuntime) -> Result<ExitCode, io::Error> {
     let mut tally = Tally {
         passed: 0,
         failed: 0,
@@ -23,8 +24,8 @@ fn main(rt: HostRuntime) -> Result<(), io::Error> {
     let failed = tally.failed;
     println!(rt; "{passed} cases as they should be, {failed} not")?;
     if failed == 0 {
-        Ok(())
+        Ok(ExitCode::SUCCESS)
     } else {
-        Err(io::Error::from(io::ErrorKind::Other))
+        Ok(ExitCode::FAILURE)
     }
 }

@@ -1,5 +1,5 @@
 -- The laws of a field, proved by one test over all its codes.
-use Rattle.std.proofs.Common.{◌≡◌, ℕ, zero, suc, ◌+◌, ◌-◌, ◌*◌, ◌%◌, ◌<◌, ◌≤◌, Bool, true, false, cond, not, ◌&&◌, ◌||◌, T, eqb, ltb, sym, refl, ap, ◌∙◌, subst, arith, lit<, eqb→eq, ltb→lt}
+use Rattle.std.proofs.Common.{◌≡◌, ℕ, zero, suc, ◌<◌, Bool, true, false, ◌&&◌, ◌||◌, T, eqb, ltb, subst, arith, eqb→eq, ltb→lt}
 use native.Mathlib.Decide.{dec_lt}
 use Rattle.field.specs.Ring.{Ops}
 use Rattle.field.specs.Codes.{Field}

@@ -1,8 +1,8 @@
 -- The public key, from what its two draws gave.
-use Rattle.std.proofs.Common.{◌≡◌, ℕ, ◌+◌, ◌-◌, ◌*◌, ◌/◌, ◌≤◌, List, ◌++◌, length, take, Ok, Err, Result, sym, refl, ap, ◌∙◌, subst, arith}
+use Rattle.std.proofs.Common.{◌≡◌, ℕ, ◌-◌, ◌≤◌, List, ◌++◌, length, take, Ok, Err, Result, sym, refl, ap, ◌∙◌, subst, arith}
 use native.Mathlib.Nat.{sub-zero}
 use Rattle.refusal.specs.declared.Refusal.{Refusal}
-use Rattle.refusal.specs.Outcome.{and_then, told}
+use Rattle.refusal.specs.Outcome.{told}
 use Rattle.field.specs.Codes.{Codes}
 use Rattle.field.specs.Coding.{Coding, reads}
 use Rattle.packing.specs.Packed.{packed}

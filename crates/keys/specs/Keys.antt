@@ -1,5 +1,5 @@
 -- Keys: what a public key owes, and what key making comes to.
-use Rattle.std.specs.Prelude.{◌≡◌, ℕ, ◌+◌, List, ◌++◌, length, take, drop, Ok, Err, Result, ◌==◌, nat_le}
+use Rattle.std.specs.Prelude.{◌≡◌, ℕ, List, ◌++◌, length, take, drop, Ok, Err, Result, ◌==◌, nat_le}
 use Rattle.std.specs.Borrow.{Bor}
 use Rattle.refusal.specs.declared.Buffer.TheVariants.{Map, Secret, Answer}
 use Rattle.refusal.specs.declared.Layer.TheVariants.{Signature}
@@ -7,7 +7,7 @@ use Rattle.refusal.specs.declared.Refusal.{Refusal}
 use Rattle.refusal.specs.declared.Refusal.TheVariants.{BufferLength, KeyLength}
 use Rattle.refusal.specs.Outcome.{and_then, unless}
 use Rattle.field.specs.Coding.{Coding, reads}
-use Rattle.packing.specs.Packed.{width, packed, fault, refusing, key_refusal_of}
+use Rattle.packing.specs.Packed.{packed, fault, refusing, key_refusal_of}
 use Rattle.packing.specs.Laws.{KeyWrong}
 use Rattle.params.specs.declared.Set.{Set}
 use Rattle.params.specs.Sets.{set_of}

@@ -2,13 +2,14 @@
 #![tactic(auto)]
 
 use console::command::run;
+use std::process::ExitCode;
 use std::{env, io};
 
-fn main(rt: HostRuntime) -> Result<(), io::Error> {
+fn main(rt: HostRuntime) -> Result<ExitCode, io::Error> {
     let args: Vec<String> = env::args(&rt)?.skip(1).collect(rt.alloc())?;
     if run(&rt, args.as_slice())? {
-        Ok(())
+        Ok(ExitCode::SUCCESS)
     } else {
-        Err(io::Error::from(io::ErrorKind::Other))
+        Ok(ExitCode::FAILURE)
     }
 }

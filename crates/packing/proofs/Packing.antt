@@ -1,5 +1,5 @@
 -- One turn of the loop that writes a packed vector.
-use Rattle.std.proofs.Common.{◌≡◌, ℕ, ◌+◌, ◌-◌, ◌*◌, ◌/◌, ◌%◌, ◌^◌, ◌<◌, ◌≤◌, List, ◌∷◌, ◌++◌, length, get_or, take, drop, set, sym, refl, ap, ◌∙◌, ap₂, arith}
+use Rattle.std.proofs.Common.{◌≡◌, ℕ, ◌+◌, ◌-◌, ◌*◌, ◌/◌, ◌%◌, ◌^◌, ◌<◌, ◌≤◌, List, ◌∷◌, ◌++◌, length, get_or, take, drop, set, sym, ap, ◌∙◌, ap₂, arith}
 use native.Mathlib.Nat.{pow-zero}
 use lib.Bits.{bit_or}
 use Rattle.std.proofs.lemmas.List.{length-set, at_drop_more, at_drop_all, take_more_set, append_assoc, append-nil, take_all}

@@ -1,9 +1,9 @@
 -- One turn of the loops that read a packed vector, and their ends.
-use Rattle.std.proofs.Common.{◌≡◌, ℕ, ◌+◌, ◌-◌, ◌*◌, ◌/◌, ◌%◌, ◌^◌, ◌<◌, ◌≤◌, List, ◌∷◌, ◌++◌, length, get_or, take, drop, set, sym, refl, ap, ◌∙◌, mul_comm, div-one, add-one, arith}
+use Rattle.std.proofs.Common.{◌≡◌, ℕ, ◌+◌, ◌-◌, ◌*◌, ◌/◌, ◌%◌, ◌^◌, ◌<◌, ◌≤◌, List, length, get_or, drop, sym, ap, ◌∙◌, mul_comm, div-one, add-one, arith}
 use native.Mathlib.Nat.{pow-zero, pow-succ', div-div-eq-div-mul, add-mul-div_left, add-mul-mod_self_left}
 use Rattle.std.proofs.lemmas.List.{at_drop_more, at_drop_all}
 use Rattle.std.proofs.lemmas.Nat.{pow-add, pow_pos, mul-le, shr_below}
-use Rattle.packing.specs.Numeral.{amount, digits}
+use Rattle.packing.specs.Numeral.{amount}
 use Rattle.packing.specs.Packed.{elements, width, pad}
 use Rattle.packing.proofs.Numerals.{get_or_digits}
 

@@ -27,7 +27,7 @@ pub enum Buffer {
     Store,
 }
 
-// Named by what was turned away; `numbersOf` has the number, layer and place of each case.
+// Named by what was turned away; `numbers_of` has the number, layer and place of each case.
 #[derive(Clone, Copy, PartialEq, Eq, Debug)]
 pub enum Refusal {
     BadSet,

@@ -33,9 +33,10 @@ use crate::vector_cases::run_vectors;
 use crate::verify_lengths::run_verify_lengths;
 use crate::verify_refusals::run_verify_refusals;
 use std::io;
+use std::process::ExitCode;
 use tally::Tally;
 
-fn main(rt: HostRuntime) -> Result<(), io::Error> {
+fn main(rt: HostRuntime) -> Result<ExitCode, io::Error> {
     let mut tally = Tally {
         passed: 0,
         failed: 0,
@@ -66,8 +67,8 @@ fn main(rt: HostRuntime) -> Result<(), io::Error> {
     let failed = tally.failed;
     println!(rt; "{passed} cases as they should be, {failed} not")?;
     if failed == 0 {
-        Ok(())
+        Ok(ExitCode::SUCCESS)
     } else {
-        Err(io::Error::from(io::ErrorKind::Other))
+        Ok(ExitCode::FAILURE)
     }
 }

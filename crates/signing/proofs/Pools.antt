@@ -1,7 +1,7 @@
 -- The three vectors that a round drew, as the code cuts them.
-use Rattle.std.proofs.Common.{◌≡◌, ℕ, ◌+◌, ◌-◌, ◌*◌, ◌≤◌, true, List, ◌++◌, length, take, drop, sym, ap, ◌∙◌, subst, arith}
+use Rattle.std.proofs.Common.{◌≡◌, ℕ, ◌+◌, ◌-◌, ◌*◌, List, ◌++◌, take, drop, sym, ap, ◌∙◌, subst, arith}
 use native.Mathlib.Nat.{sub-zero}
-use Rattle.field.specs.Codes.{Codes, Vector}
+use Rattle.field.specs.Codes.{Vector}
 use Rattle.params.specs.declared.Set.{Set}
 use Rattle.suite.specs.Drawn.{Elements}
 use Rattle.suite.specs.Meaning.{Meaning}

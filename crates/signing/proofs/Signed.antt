@@ -1,7 +1,5 @@
 -- The signature's sections, put together: the challenges that the code drew are those of the scheme.
-use Rattle.std.proofs.Common.{◌≡◌, ℕ, ◌+◌, ◌*◌, ◌%◌, ◌<◌, ◌≤◌, List, [], ◌∷◌, ◌++◌, map, length, get_or, take, drop, sym, refl, ap, ◌∙◌, subst, ap₂, append_assoc, arith, length-append}
-use mathlib.Core.Path.{fun_ext}
-use Rattle.std.specs.List.{range_with_len}
+use Rattle.std.proofs.Common.{◌≡◌, ℕ, ◌+◌, ◌*◌, ◌%◌, ◌<◌, ◌≤◌, List, ◌++◌, length, get_or, take, drop, sym, ap, ◌∙◌, ap₂, append_assoc, arith, length-append}
 use Rattle.std.proofs.lemmas.List.FromFn.{get_or-map-range_with_len}
 use Rattle.std.proofs.lemmas.List.{drop-take, drop_at}
 use Rattle.field.specs.Coding.{Coding}
@@ -10,8 +8,8 @@ use Rattle.params.specs.declared.Set.{Set}
 use Rattle.suite.specs.Meaning.{Meaning, Lawful}
 use Rattle.suite.specs.Calls.{first}
 use Rattle.wire.specs.Layout.{part}
-use Rattle.scheme.specs.Rounds.{rounds, taken, chosen_by_bit}
-use Rattle.scheme.specs.Challenges.{h1_of, h2_of, bit_of, alpha_of}
+use Rattle.scheme.specs.Rounds.{taken, chosen_by_bit}
+use Rattle.scheme.specs.Challenges.{h1_of, h2_of}
 use Rattle.scheme.specs.Signing.{pool, c0, c1, r0, r1, list, answers, responses, others, σ0, σ1, α_of, bit_of_round}
 use Rattle.scheme.proofs.Parts.{part_left, part_right, part_all}
 use Rattle.scheme.proofs.Rounds.{rounds_cong, rounds_sub}

@@ -1,5 +1,5 @@
 -- What signing comes to, by what its steps answered.
-use Rattle.std.proofs.Common.{◌≡◌, ℕ, List, [], ◌++◌, length, replicate, Ok, Err, Result, sym, refl, ap, ◌∙◌, append-nil}
+use Rattle.std.proofs.Common.{◌≡◌, ℕ, List, [], ◌++◌, replicate, Ok, Err, Result, sym, ap, ◌∙◌, append-nil}
 use Rattle.refusal.specs.declared.Refusal.{Refusal}
 use Rattle.refusal.specs.Outcome.{told, written}
 use Rattle.field.specs.Coding.{Coding}

@@ -8,7 +8,7 @@ use Rattle.suite.specs.Meaning.{Meaning}
 use Rattle.suite.specs.Drawn.{drawn}
 use Rattle.wire.specs.Layout.{part}
 use Rattle.scheme.specs.Rounds.{rounds, chosen_by_bit}
-use Rattle.scheme.specs.Challenges.{D_of, h1_of}
+use Rattle.scheme.specs.Challenges.{h1_of}
 use Rattle.scheme.specs.Signing.{pools_of, σ0, σ1, responses, others, bit_of_round}
 
 -- of each round of a commitment list, the side that the bit does not open

@@ -1,5 +1,5 @@
 -- The two functions of the flat suite: a digest of the label alone, and the bench suite's stream.
-use Rattle.std.specs.Prelude.{ℕ, ◌+◌, ◌%◌, List, replicate}
+use Rattle.std.specs.Prelude.{ℕ, ◌+◌, ◌%◌, replicate}
 use Rattle.suite.specs.Meaning.{Meaning}
 use Rattle.suite_bench.specs.Sums.{bench_meaning}
 

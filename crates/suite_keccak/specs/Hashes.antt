@@ -1,5 +1,5 @@
 -- The two functions of the Keccak suite.
-use Rattle.std.specs.Prelude.{ℕ, List, ◌∷◌}
+use Rattle.std.specs.Prelude.{◌∷◌}
 use Rattle.sha3.specs.Hash.{sha3_256_of, shake128_byte}
 use Rattle.suite.specs.Meaning.{Meaning}
 

@@ -1,15 +1,13 @@
 -- The first refusal of all vectors is the earliest thing wrong with the whole signature.
-use Rattle.std.proofs.Common.{◌≡◌, ℕ, zero, suc, ◌+◌, ◌-◌, ◌*◌, ◌<◌, ◌≤◌, ◌⊎◌, List, [], ◌∷◌, ◌++◌, replicate, Ok, Err, Result, sym, refl, ap, ◌∙◌, subst, inl, inr, arith}
+use Rattle.std.proofs.Common.{◌≡◌, ℕ, ◌+◌, ◌<◌, ◌≤◌, ◌⊎◌, List, [], ◌∷◌, Ok, Err, Result, refl, subst, inl, inr, arith}
 use Rattle.std.specs.List.{AllByRecursion as All}
 use Rattle.refusal.specs.declared.Refusal.{Refusal}
-use Rattle.refusal.specs.Numbers.{numbers_of}
 use Rattle.refusal.specs.Outcome.{and_then}
-use Rattle.packing.specs.Packed.{width, byte_of}
-use Rattle.packing.specs.Laws.{Judges, Earliest}
+use Rattle.packing.specs.Packed.{width}
+use Rattle.packing.specs.Laws.{Judges}
 use Rattle.packing.proofs.Earliest.{judged, byte_last}
 use Rattle.packing.proofs.Widths.{width_some}
-use Rattle.params.specs.declared.Set.{Set}
-use Rattle.wire.specs.Layout.{part, t1_at, e1_at, response_at, WrongAt, Faulty, vector_check_at, scan_from, firsts, vectors, scanned}
+use Rattle.wire.specs.Layout.{part, WrongAt, vector_check_at, scan_from}
 
 -- the same things wrong, in other words
 pub judges_same : {V W : ℕ → ℕ → Type 0} (r : Result (Unit {0}) Refusal) → ((n p : ℕ) → V n p → W n p) → ((n p : ℕ) → W n p → V n p) → Judges V r → Judges W r

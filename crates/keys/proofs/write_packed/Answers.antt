@@ -1,4 +1,4 @@
-use Rattle.std.proofs.Common.{◌≡◌, ℕ, ◌+◌, ◌-◌, List, ◌++◌, length, drop, sym, ap, ◌∙◌, ap₂, arith, length-drop, rules}
+use Rattle.std.proofs.Common.{◌≡◌, ◌++◌, length, drop, sym, ap, ◌∙◌, ap₂, arith, length-drop, rules}
 use Rattle.packing.specs.Packed.{width, packed}
 use Rattle.algebra.specs.Quad.{F}
 use Rattle.vectors.proofs.Stored.{two_parts, behind}

@@ -1,5 +1,5 @@
-use Rattle.std.proofs.Common.{◌≡◌, length, sym, ◌∙◌, arith}
-use Rattle.packing.specs.Packed.{width, first_not}
+use Rattle.std.proofs.Common.{◌≡◌, length, sym, ◌∙◌}
+use Rattle.packing.specs.Packed.{width}
 use Rattle.packing.proofs.Faults.{codes_ok}
 use Rattle.packing.proofs.Outcomes.{wrote}
 use Rattle.packing.proofs.pack.Goals as goal

@@ -1,4 +1,4 @@
-use Rattle.std.proofs.Common.{◌≡◌, ℕ, ◌-◌, ◌*◌, ◌≤◌, List, ◌++◌, length, take, sym, refl, ap, ◌∙◌, ap₂, arith, length-take, rules}
+use Rattle.std.proofs.Common.{◌≡◌, ℕ, ◌-◌, ◌*◌, ◌≤◌, List, ◌++◌, length, take, sym, refl, ap, ◌∙◌, ap₂, arith, length-take}
 use Rattle.field.specs.Coding.{Coding}
 use Rattle.field.specs.Codes.{Vector}
 use Rattle.params.specs.Sizes.{coefficients_of}

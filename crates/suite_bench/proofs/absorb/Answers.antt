@@ -1,4 +1,4 @@
-use Rattle.std.proofs.Common.{◌≡◌, ◌+◌, ◌%◌, ◌<◌, get_or, ap, ◌∙◌, arith, take_all}
+use Rattle.std.proofs.Common.{◌+◌, ◌%◌, get_or, ap, ◌∙◌, arith, take_all}
 use Rattle.suite_bench.specs.Sums.{lane}
 use Rattle.suite_bench.specs.Lanes.{absorb_more}
 use Rattle.suite_bench.proofs.absorb.Goals as goal

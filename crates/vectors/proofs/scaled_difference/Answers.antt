@@ -1,4 +1,4 @@
-use Rattle.std.proofs.Common.{◌≡◌, ℕ, ◌<◌, List, length, get_or, sym, ap, ◌∙◌, subst, arith, rules}
+use Rattle.std.proofs.Common.{◌≡◌, ℕ, length, get_or, sym, ap, ◌∙◌, subst, arith}
 use Rattle.field.specs.Ring.{sub as minus}
 use Rattle.field.specs.Codes.{Codes}
 use Rattle.algebra.specs.Quad.{vsub, scale}

@@ -1,4 +1,4 @@
-use Rattle.std.proofs.Common.{◌≡◌, ℕ, ◌<◌, List, length, sym, ◌∙◌, subst, arith}
+use Rattle.std.proofs.Common.{◌≡◌, ℕ, length, sym, subst, arith}
 use Rattle.field.specs.Codes.{Codes}
 use Rattle.algebra.specs.Quad.{vadd}
 use Rattle.algebra.proofs.Below.{vadd_codes}

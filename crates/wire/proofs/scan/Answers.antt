@@ -1,4 +1,4 @@
-use Rattle.std.proofs.Common.{◌≡◌, ℕ, ◌+◌, ◌*◌, ◌≤◌, true, List, length, Ok, Err, Result, sym, refl, ap, ◌∙◌, subst, arith}
+use Rattle.std.proofs.Common.{◌≡◌, ℕ, ◌+◌, ◌*◌, ◌≤◌, true, List, length, Result, sym, ap, ◌∙◌, arith}
 use Rattle.std.proofs.lemmas.Result.{err_from_is_err_and}
 use Rattle.refusal.specs.declared.Refusal.{Refusal}
 use Rattle.packing.specs.Packed.{width}
@@ -8,7 +8,7 @@ use Rattle.params.specs.Sizes.{signature_length}
 use Rattle.packing.proofs.Widths.{width_under}
 use Rattle.params.specs.Sets.{good}
 use Rattle.wire.specs.Layout.{vector_check_at}
-use Rattle.wire.proofs.Rounds.{Firsts, first_room, response_room, t1_stop, e1_stop, first_on, responses_none, response_stop, response_on}
+use Rattle.wire.proofs.Rounds.{first_room, response_room, t1_stop, e1_stop, first_on, responses_none, response_stop, response_on}
 use Rattle.wire.proofs.scan.Goals as goal
 
 -- a signature is short

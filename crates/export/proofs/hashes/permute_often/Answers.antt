@@ -1,6 +1,5 @@
 -- After so many turns of the loop, so many permutations.
 use Rattle.std.proofs.Common.{◌≡◌, ℕ, sym, ap, ◌∙◌, arith}
-use Rattle.keccak.specs.State.{Rows}
 use Rattle.keccak.specs.Rounds.{keccak_f}
 use Rattle.sha3.specs.Sponge.{later}
 use Rattle.sha3.proofs.Sponge.{later_none, later_more}

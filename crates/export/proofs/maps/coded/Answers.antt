@@ -1,5 +1,5 @@
 -- At the end of the loop all entries are tested.
-use Rattle.std.proofs.Common.{◌≡◌, true, sym, ap, ◌∙◌, arith}
+use Rattle.std.proofs.Common.{◌≡◌, sym, ◌∙◌, arith}
 use Rattle.export.specs.Maps.{coded}
 use Rattle.export.proofs.Codes.{one_more, at_end, codes_of_lem, is_true}
 use Rattle.export.proofs.maps.coded.Goals as goal

@@ -1,4 +1,4 @@
-use Rattle.std.proofs.Common.{◌≡◌, ℕ, ◌+◌, ◌*◌, ◌≤◌, ap₂, arith}
+use Rattle.std.proofs.Common.{ℕ, ◌+◌, ◌*◌, ◌≤◌, ap₂, arith}
 use Rattle.params.proofs.Bounds.{bounds, rounds_few}
 use Rattle.params.proofs.Set.signature_len.Goals as goal
 

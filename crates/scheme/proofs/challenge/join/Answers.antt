@@ -1,4 +1,4 @@
-use Rattle.std.proofs.Common.{◌≡◌, ℕ, ◌+◌, List, ◌++◌, length, drop, sym, refl, ap, ◌∙◌, ap₂, arith, length-append, length-drop}
+use Rattle.std.proofs.Common.{◌≡◌, ℕ, ◌+◌, List, ◌++◌, length, drop, sym, refl, ◌∙◌, ap₂, arith, length-append, length-drop}
 use Rattle.scheme.proofs.Fronts.{three_whole}
 use Rattle.scheme.proofs.challenge.join.Goals as goal
 

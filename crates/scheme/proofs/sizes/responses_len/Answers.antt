@@ -1,4 +1,4 @@
-use Rattle.std.proofs.Common.{◌≡◌, ℕ, ◌+◌, ◌*◌, ◌≤◌, ap, arith}
+use Rattle.std.proofs.Common.{ℕ, ◌*◌, ap, arith}
 use Rattle.params.proofs.Bounds.{bounds, rounds_few}
 use Rattle.scheme.proofs.sizes.responses_len.Goals as goal
 

@@ -1,5 +1,4 @@
-use Rattle.std.proofs.Common.{◌+◌, get_or}
-use Rattle.packing.specs.Packed.{width}
+use Rattle.std.proofs.Common.{get_or}
 use Rattle.scheme.specs.Signing.{pool, first_answer}
 use Rattle.signing.proofs.Going.{Going}
 use Rattle.signing.proofs.answer.answer_rounds.Given as goal

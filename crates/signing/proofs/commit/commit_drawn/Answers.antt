@@ -1,9 +1,7 @@
-use Rattle.std.proofs.Common.{◌≡◌, ℕ, List, ◌++◌, length, sym, ap, ◌∙◌, ap₂, arith}
+use Rattle.std.proofs.Common.{◌≡◌, ◌++◌, length, ◌∙◌, ap₂, arith}
 use Rattle.field.specs.Coding.{Coding}
 use Rattle.params.proofs.Bounds.{bounds}
-use Rattle.params.specs.declared.Set.{Set}
 use Rattle.suite.specs.Meaning.{Meaning}
-use Rattle.scheme.specs.Signing.{c0, c1}
 use Rattle.vectors.proofs.Stored.{two_parts}
 use Rattle.signing.proofs.Pools.{of_r0, of_t0, of_e0, committed_0, committed_1}
 use Rattle.signing.proofs.commit.commit_drawn.Goals as goal

@@ -1,5 +1,4 @@
-use Rattle.std.proofs.Common.{◌≡◌, ℕ, ◌-◌, List, ◌++◌, length, take, sym, ap, ◌∙◌, arith, rules}
-use native.Mathlib.Nat.{sub-zero}
+use Rattle.std.proofs.Common.{◌≡◌, ℕ, List, ◌++◌, length, sym, ap, ◌∙◌, arith, rules}
 use Rattle.field.specs.Coding.{Coding}
 use Rattle.suite.specs.Meaning.{Meaning}
 use Rattle.suite.specs.Calls.{first}

@@ -1,4 +1,4 @@
-use Rattle.std.proofs.Common.{◌≡◌, ℕ, List, ◌++◌, length, take, ap, ◌∙◌}
+use Rattle.std.proofs.Common.{◌≡◌, ℕ, List, ◌++◌, ap, ◌∙◌}
 use Rattle.field.specs.Coding.{Coding}
 use Rattle.refusal.specs.Outcome.{told}
 use Rattle.suite.specs.Meaning.{Meaning}

@@ -1,4 +1,4 @@
-use Rattle.std.proofs.Common.{◌≡◌, ℕ, ◌+◌, ◌*◌, ◌%◌, List, length, get_or, sym, refl, ap, ◌∙◌, arith}
+use Rattle.std.proofs.Common.{ℕ, ◌+◌, ◌*◌, ◌%◌, List, get_or, ◌∙◌, arith}
 use Rattle.wire.specs.Layout.{part}
 use Rattle.scheme.specs.Rounds.{chosen_by_bit}
 use Rattle.scheme.proofs.Writes.{written_none, written_more, written_all, round_room}

@@ -1,9 +1,7 @@
-use Rattle.std.proofs.Common.{◌≡◌, ℕ, ◌-◌, List, ◌++◌, length, take, Ok, sym, refl, ap, ◌∙◌, arith}
+use Rattle.std.proofs.Common.{length, Ok, sym, refl, ap, ◌∙◌, arith}
 use Rattle.std.proofs.lemmas.Result.{err_from_is_err_and}
 use Rattle.field.specs.Coding.{Coding}
 use Rattle.suite.specs.Meaning.{Meaning}
-use Rattle.suite.specs.Drawn.{Elements}
-use Rattle.scheme.specs.Signing.{list, σ0}
 use Rattle.signing.specs.Steps.{rounds_of}
 use Rattle.signing.proofs.Pools.{cut_front, of_front}
 use Rattle.signing.proofs.Stepwise.{comes_refused, comes_made, pools_stop, base_is, h1_is, alphas_stop, rounds_made}

@@ -1,11 +1,10 @@
-use Rattle.std.proofs.Common.{◌≡◌, ℕ, ◌+◌, ◌-◌, ◌/◌, ◌≤◌, List, ◌++◌, length, take, drop, sym, refl, ap, ◌∙◌, ap₂, arith}
+use Rattle.std.proofs.Common.{◌≡◌, ℕ, ◌-◌, ◌≤◌, List, ◌++◌, length, take, drop, refl, ap, ◌∙◌, ap₂, arith}
 use native.Mathlib.Nat.{sub-zero}
 use Rattle.std.proofs.lemmas.List.{length-take-le}
 use Rattle.std.proofs.lemmas.Result.{err_from_is_err_and}
 use Rattle.field.specs.Coding.{Coding, reads}
-use Rattle.suite.specs.Meaning.{Meaning}
 use Rattle.suite.specs.Sifted.{sifted}
-use Rattle.suite.proofs.Draws.{Drew, rest_same, stopped, short, done}
+use Rattle.suite.proofs.Draws.{rest_same, stopped, short, done}
 use Rattle.suite.proofs.drawing.draw.Goals as goal
 
 -- the part that the stream fills

@@ -1,4 +1,4 @@
-use Rattle.std.proofs.Common.{◌≡◌, ℕ, length, sym, ap, ◌∙◌}
+use Rattle.std.proofs.Common.{ℕ, length, sym, ap, ◌∙◌}
 use Rattle.packing.specs.Packed.{width}
 use Rattle.vectors.proofs.Stored.{codes_first}
 use Rattle.vectors.proofs.packed.store.Goals as goal

@@ -1,4 +1,4 @@
-use Rattle.std.proofs.Common.{◌≡◌, ℕ, ◌++◌, length, ◌∙◌, ap₂, arith, rules}
+use Rattle.std.proofs.Common.{◌≡◌, ◌++◌, length, ◌∙◌, ap₂, rules}
 use Rattle.vectors.proofs.Stored.{two_parts}
 use Rattle.vectors.proofs.packed.store_both.Goals as goal
 
