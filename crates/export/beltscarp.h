@@ -1,4 +1,5 @@
-// The functions of crate export, for C. A slice is a pointer and then a length; see src/ for what each call promises.
+// The functions of crate export, as the static library export_c hands them to C. A slice is a pointer and then a length; see src/ for
+// what each call promises.
 #ifndef BELTSCARP_H
 #define BELTSCARP_H
 
