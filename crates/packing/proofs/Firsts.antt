@@ -1,6 +1,6 @@
 -- The first entry that is no code.
 use Rattle.std.proofs.Common.{◌≡◌, ℕ, zero, suc, ◌+◌, ◌<◌, ◌≤◌, Bool, true, false, cond, ltb, List, [], ◌∷◌, length, get_or, refl, inl, inr, arith}
-use Rattle.std.specs.List.{AllByRecursion as All}
+use Rattle.std.specs.List.{AllByRecursion}
 use Rattle.std.proofs.lemmas.Bool.{ltb-true, ltb-false, lt-ltb, le-ltb, cases_lt}
 use Rattle.packing.specs.Packed.{first_not}
 
@@ -50,13 +50,13 @@ past true f l h = (refl, omega arith)
 past false f l h = absurd (omega arith)
 
 -- none was found: all are codes
-pub codes_from : (q : ℕ) (xs : List ℕ) → first_not q xs ≡ length xs → All (λ x. x < q) xs
+pub codes_from : (q : ℕ) (xs : List ℕ) → first_not q xs ≡ length xs → AllByRecursion (λ x. x < q) xs
 codes_from q [] h = tt
 codes_from q (y ∷ ys) h =
     let w = past (ltb y q) (first_not q ys) (length ys) h in
     (ltb-true y q w.0, codes_from q ys w.1)
 
-pub first_codes : (q : ℕ) (xs : List ℕ) → All (λ x. x < q) xs → first_not q xs ≡ length xs
+pub first_codes : (q : ℕ) (xs : List ℕ) → AllByRecursion (λ x. x < q) xs → first_not q xs ≡ length xs
 first_codes q [] a = refl
 first_codes q (y ∷ ys) a =
     let e = first_codes q ys a.1 in

@@ -1,7 +1,7 @@
 -- Digits and the number that they write give each other back.
 use Rattle.std.proofs.Common.{◌≡◌, ℕ, zero, suc, ◌+◌, ◌-◌, ◌*◌, ◌/◌, ◌%◌, ◌^◌, ◌<◌, ◌≤◌, List, [], ◌∷◌, length, get_or, sym, refl, ap, ◌∙◌, mod-lt, mod-eq_of_lt, mul-le-mul_left, div-one, sub-one, arith}
 use native.Mathlib.Nat.{pow-zero, pow-succ', add-mul-mod_self_left, add-mul-div_left, div-eq_of_lt, div-div-eq-div-mul}
-use Rattle.std.specs.List.{AllByRecursion as All}
+use Rattle.std.specs.List.{AllByRecursion}
 use Rattle.std.proofs.lemmas.Nat.{div-add-mod', div_below}
 use Rattle.packing.specs.Numeral.{amount, digits}
 
@@ -13,7 +13,7 @@ pub digits_step : (b n N : ℕ) → 0 < n → digits b n N ≡ N % b ∷ digits 
 digits_step b zero N h = elim h [ ]
 digits_step b (suc n) N h = ap (λ (m : ℕ). N % b ∷ digits b m (N / b)) (sym (sub-one (suc n)))
 
-pub all_digits : (b n N : ℕ) → 0 < b → All (λ d. d < b) (digits b n N)
+pub all_digits : (b n N : ℕ) → 0 < b → AllByRecursion (λ d. d < b) (digits b n N)
 all_digits b zero N h = tt
 all_digits b (suc n) N h = (mod-lt N h, all_digits b n (N / b) h)
 
@@ -35,7 +35,7 @@ rest_digits b d r h =
     let z : d / b ≡ 0 = div-eq_of_lt h in
     add-mul-div_left d r p ∙ omega arith
 
-pub digits_amount : (b : ℕ) (ds : List ℕ) → All (λ d. d < b) ds → digits b (length ds) (amount b ds) ≡ ds
+pub digits_amount : (b : ℕ) (ds : List ℕ) → AllByRecursion (λ d. d < b) ds → digits b (length ds) (amount b ds) ≡ ds
 digits_amount b [] a = refl
 digits_amount b (d ∷ ds) a =
     let m = low_digit b d (amount b ds) a.0 in
@@ -43,7 +43,7 @@ digits_amount b (d ∷ ds) a =
     let e = digits_amount b ds a.1 in
     rw (m, q, e)
 
-pub amount_lt : (b : ℕ) (ds : List ℕ) → All (λ d. d < b) ds → amount b ds < b ^ length ds
+pub amount_lt : (b : ℕ) (ds : List ℕ) → AllByRecursion (λ d. d < b) ds → amount b ds < b ^ length ds
 amount_lt b [] a = omega (arith, pow-zero b)
 amount_lt b (d ∷ ds) a =
     let e = amount_lt b ds a.1 in

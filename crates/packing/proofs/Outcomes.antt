@@ -1,6 +1,6 @@
 -- What the public calls answer and write, from what their parts found.
 use Rattle.std.proofs.Common.{◌≡◌, ℕ, ◌^◌, ◌<◌, ◌≤◌, List, length, replicate, Ok, Err, Result, sym, ap, ◌∙◌, subst, arith}
-use Rattle.std.specs.List.{AllByRecursion as All}
+use Rattle.std.specs.List.{AllByRecursion}
 use Rattle.refusal.specs.declared.Refusal.{Refusal}
 use Rattle.refusal.specs.Outcome.{told, written}
 use Rattle.packing.specs.Packed.{width, packed, elements, fault, first_not, refusing, pack_of, unpack_by}
@@ -32,7 +32,7 @@ module _ (f : Fault → Refusal) (W : ℕ → ℕ → Type 0) (q b k : ℕ) (byt
     pub law : r ≡ Ok tt → Unpacks q b bytes out
     pub judged : Judges W r
 
-  pub reads : (out : List ℕ) → 1 ≤ b → q ≤ 2 ^ b → All (λ x. x < 256) bytes → length bytes ≡ width b k → fault q b k bytes ≡ Ok tt → out ≡ elements b k bytes → Reads (Ok tt) out
+  pub reads : (out : List ℕ) → 1 ≤ b → q ≤ 2 ^ b → AllByRecursion (λ x. x < 256) bytes → length bytes ≡ width b k → fault q b k bytes ≡ Ok tt → out ≡ elements b k bytes → Reads (Ok tt) out
   reads out some fits a long ok e =
       let is = unpack_ok f q b k bytes long ok in
       record {

@@ -1,7 +1,7 @@
 -- There and back: packing and unpacking undo each other.
 use Rattle.std.proofs.Common.{◌≡◌, ℕ, zero, suc, ◌+◌, ◌*◌, ◌/◌, ◌%◌, ◌^◌, ◌<◌, ◌≤◌, Bool, true, false, cond, eqb, ltb, List, length, Ok, Err, Result, sym, refl, ap, ◌∙◌, ap₂, div-lt_iff_lt-mul, arith}
 use native.Mathlib.Nat.{pow-zero, pow-succ', pow-le-pow_right, div-eq_of_lt}
-use Rattle.std.specs.List.{AllByRecursion as All}
+use Rattle.std.specs.List.{AllByRecursion}
 use Rattle.std.proofs.lemmas.Nat.{pow-add, pow_pos}
 use Rattle.std.proofs.ByRecursion.{All-weaker}
 use Rattle.std.proofs.lemmas.Bool.{eq-eqb, eqb-true, ltb-false}
@@ -33,7 +33,7 @@ fit b k =
     let two : 0 < 2 = omega arith in
     omega (arith, pow-le-pow_right two le)
 
-packed_amount : (b : ℕ) (v : List ℕ) → All (λ x. x < 2 ^ b) v → amount 256 (packed b v) ≡ amount (2 ^ b) v
+packed_amount : (b : ℕ) (v : List ℕ) → AllByRecursion (λ x. x < 2 ^ b) v → amount 256 (packed b v) ≡ amount (2 ^ b) v
 packed_amount b v wide =
     let lt = amount_lt (2 ^ b) v wide in
     amount_digits 256 (width b (length v)) (amount (2 ^ b) v) (omega arith) (omega (arith, fit b (length v)))
@@ -41,7 +41,7 @@ packed_amount b v wide =
 pub packed_length : (b : ℕ) (v : List ℕ) → length (packed b v) ≡ width b (length v)
 packed_length b v = length_digits 256 (width b (length v)) (amount (2 ^ b) v)
 
-pub fills : (b : ℕ) (v : List ℕ) → 1 ≤ b → All (λ x. x < 2 ^ b) v → (c : ℕ) → bit_at 8 (packed b v) c ≡ bit_at b v c
+pub fills : (b : ℕ) (v : List ℕ) → 1 ≤ b → AllByRecursion (λ x. x < 2 ^ b) v → (c : ℕ) → bit_at 8 (packed b v) c ≡ bit_at b v c
 fills b v some a c =
     bit_at_lem 8 (packed b v) c (omega arith) (all_digits 256 _ _ (omega arith))
     ∙ ap (λ (n : ℕ). n / 2 ^ c % 2) (packed_amount b v a)
@@ -56,13 +56,13 @@ pack_ok q b v room long none =
     let ok : codes_of q b v ≡ Ok tt = all_codes q b v (omega arith) in
     rw (eq-eqb room (width b (length v)) long, ok)
 
-wide : (q b : ℕ) (v : List ℕ) → q ≤ 2 ^ b → All (λ x. x < q) v → All (λ x. x < 2 ^ b) v
+wide : (q b : ℕ) (v : List ℕ) → q ≤ 2 ^ b → AllByRecursion (λ x. x < q) v → AllByRecursion (λ x. x < 2 ^ b) v
 wide q b v fits a = All-weaker (λ x. x < q) (λ x. x < 2 ^ b) (λ x h. omega arith) v a
 
-pub packs : (q b : ℕ) (v : List ℕ) → 1 ≤ b → q ≤ 2 ^ b → All (λ x. x < q) v → Packs q b v (packed b v)
+pub packs : (q b : ℕ) (v : List ℕ) → 1 ≤ b → q ≤ 2 ^ b → AllByRecursion (λ x. x < q) v → Packs q b v (packed b v)
 packs q b v some fits a =
     let k : ℕ = length v in
-    let w : All (λ x. x < 2 ^ b) v = wide q b v fits a in
+    let w : AllByRecursion (λ x. x < 2 ^ b) v = wide q b v fits a in
     let lt : amount (2 ^ b) v < (2 ^ b) ^ k = amount_lt (2 ^ b) v w in
     let n : amount 256 (packed b v) ≡ amount (2 ^ b) v = packed_amount b v w in
     let es : elements b k (packed b v) ≡ v = ap (digits (2 ^ b) k) n ∙ digits_amount (2 ^ b) v w in
@@ -84,7 +84,7 @@ parts false false e f h =
     let z : ◌≡◌ {A = ℕ} 0 1 = cc in
     absurd (omega arith)
 
-pub unpacks : (q b k : ℕ) (bytes : List ℕ) → 1 ≤ b → q ≤ 2 ^ b → All (λ x. x < 256) bytes → length bytes ≡ width b k → fault q b k bytes ≡ Ok tt → Unpacks q b bytes (elements b k bytes)
+pub unpacks : (q b k : ℕ) (bytes : List ℕ) → 1 ≤ b → q ≤ 2 ^ b → AllByRecursion (λ x. x < 256) bytes → length bytes ≡ width b k → fault q b k bytes ≡ Ok tt → Unpacks q b bytes (elements b k bytes)
 unpacks q b k bytes some fits a long ok =
     let n : ℕ = amount 256 bytes in
     let es : List ℕ = elements b k bytes in
@@ -96,7 +96,7 @@ unpacks q b k bytes some fits a long ok =
     let lt : n < (2 ^ b) ^ k = omega (arith, (div-lt_iff_lt-mul {x = n} {y = 1} pos).0 less) in
     let len : length es ≡ k = length_digits (2 ^ b) k n in
     let first : f ≡ length es = omega (arith, first_le q es, ltb-false f k p.0) in
-    let codes : All (λ x. x < q) es = codes_from q es first in
+    let codes : AllByRecursion (λ x. x < q) es = codes_from q es first in
     let back : amount (2 ^ b) es ≡ n = amount_digits (2 ^ b) k n (pow_pos b) lt in
     let same : packed b es ≡ bytes = ap₂ (digits 256) (ap (width b) len ∙ sym long) back ∙ digits_amount 256 bytes a in
     record {

@@ -1,6 +1,6 @@
 -- What packing and unpacking owe each other, bit by bit and fault by fault.
 use Rattle.std.specs.Prelude.{◌≡◌, ℕ, ◌+◌, ◌-◌, ◌/◌, ◌%◌, ◌^◌, ◌<◌, ◌≤◌, ◌⊎◌, List, length, Ok, Err, Result, ◌≢◌, slice_index}
-use Rattle.std.specs.List.{AllByRecursion as All}
+use Rattle.std.specs.List.{AllByRecursion}
 use Rattle.refusal.specs.declared.Refusal.{Refusal}
 use Rattle.refusal.specs.Numbers.{numbers_of}
 use Rattle.packing.specs.Packed.{width, byte_of, elements, pad, pack_of, unpack_of}
@@ -16,7 +16,7 @@ pub record Packs (q b : ℕ) (v bytes : List ℕ) : Type 0 where
 
 -- what was unpacked are codes, bit by bit those of the bytes, and packing gives the bytes back
 pub record Unpacks (q b : ℕ) (bytes v : List ℕ) : Type 0 where
-  pub codes : All (λ x. x < q) v
+  pub codes : AllByRecursion (λ x. x < q) v
   pub fills : (c : ℕ) → bit_at 8 bytes c ≡ bit_at b v c
   pub redone : pack_of q b v (length bytes) ≡ Ok bytes
 

@@ -8,7 +8,7 @@ ghost use Rattle.algebra.specs.Quad.{vsub};
 ghost use Rattle.wire.specs.Layout.{part};
 ghost use Rattle.suite.specs.Drawn.{drawn};
 ghost use Rattle.scheme.specs.Rounds.{chosen_by_bit};
-ghost use Rattle.scheme.specs.Signing.{round_seed, pool_size, pools_of, pool as pool_of, r0 as r0of, r1 as r1of, responses};
+ghost use Rattle.scheme.specs.Signing.{round_seed, pool_size, pools_of, pool as pool_of, r0 as r0_of, r1 as r1_of, responses};
 ghost use Rattle.signing.specs.Steps.{carried};
 
 use crate::pool::draw_round;
@@ -58,7 +58,7 @@ fn respond_round<F: Field, S: Suite>(
     requires work { 512 ≤ length work.old }
     requires out { length out.old ≡ width F.Field.coding.bits set.n }
     ensures answer { result ≡ told (drawn F.Field.coding (S.Suite.meaning suite.now) 10 (round_seed (S.Suite.meaning suite.now) k.now d.now round) (pool_size set)) }
-    ensures bytes { result ≡ Ok tt → out.new ≡ packed F.Field.coding.bits (chosen_by_bit bit (r0of set (pool_of F.Field.coding (S.Suite.meaning suite.now) set k.now d.now round)) (r1of F.Field.coding set s.now (pool_of F.Field.coding (S.Suite.meaning suite.now) set k.now d.now round))) }
+    ensures bytes { result ≡ Ok tt → out.new ≡ packed F.Field.coding.bits (chosen_by_bit bit (r0_of set (pool_of F.Field.coding (S.Suite.meaning suite.now) set k.now d.now round)) (r1_of F.Field.coding set s.now (pool_of F.Field.coding (S.Suite.meaning suite.now) set k.now d.now round))) }
 {
     let n = set.n;
     let m = set.m;

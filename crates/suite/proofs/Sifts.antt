@@ -1,6 +1,6 @@
 -- One turn of the loop that sifts in place, and its end.
 use Rattle.std.proofs.Common.{◌≡◌, ℕ, ◌+◌, ◌%◌, ◌^◌, ◌<◌, ◌≤◌, Bool, true, false, cond, ltb, List, [], ◌∷◌, ◌++◌, map, length, get_or, take, drop, set, filter, sym, ap, ◌∙◌, arith}
-use Rattle.std.specs.List.{AllByRecursion as All}
+use Rattle.std.specs.List.{AllByRecursion}
 use Rattle.std.proofs.lemmas.List.{append-nil, length-set, length-take-le, take_all, take_more_set, drop_more, drop-set-lt, map_more}
 use Rattle.std.proofs.lemmas.List.Elements.{filter-append}
 use Rattle.std.proofs.ByRecursion.{kept_by_passes, All-weaker}
@@ -59,7 +59,7 @@ module _ {q b : ℕ} {xs ys : List ℕ} {k i : ℕ} (p : Sifting q b xs ys k i) 
   sift_count h = sym (length-take-le k ys (omega (arith, p.behind, p.within, p.long))) ∙ ap length (sift_all h)
 
 -- what bytes give are codes
-pub all_sifted : (q b : ℕ) (bytes : List ℕ) → All (λ x. x < q) (sifted q b bytes)
+pub all_sifted : (q b : ℕ) (bytes : List ℕ) → AllByRecursion (λ x. x < q) (sifted q b bytes)
 all_sifted q b bytes =
     let xs : List ℕ = map (λ y. y % 2 ^ b) bytes in
     All-weaker (λ x. ltb x q ≡ true) (λ x. x < q) (λ x h. ltb-true x q h) (filter (λ x. ltb x q) xs) (kept_by_passes (λ x. ltb x q) xs)

@@ -1,6 +1,6 @@
 -- The vectors that lie one behind the other are t1, e1 and the response of each round.
 use Rattle.std.proofs.Common.{◌≡◌, ℕ, zero, suc, ◌+◌, ◌*◌, ◌<◌, ◌≤◌, ◌⊎◌, List, ◌++◌, length, replicate, Ok, refl, subst, inl, inr, arith}
-use Rattle.std.specs.List.{AllByRecursion as All}
+use Rattle.std.specs.List.{AllByRecursion}
 use Rattle.std.proofs.lemmas.Bool.{eq-eqb}
 use Rattle.packing.specs.Packed.{width}
 use Rattle.packing.specs.Laws.{Judges}
@@ -107,11 +107,11 @@ module _ (q b : ℕ) (s : Set) (sig : List ℕ) (some : 1 ≤ b) where
       ]
 
   -- each vector has some element
-  all_firsts : (n m r : ℕ) (ks : List ℕ) → 1 ≤ n → 1 ≤ m → All (λ k. 1 ≤ k) ks → All (λ k. 1 ≤ k) (firsts n m r ++ ks)
+  all_firsts : (n m r : ℕ) (ks : List ℕ) → 1 ≤ n → 1 ≤ m → AllByRecursion (λ k. 1 ≤ k) ks → AllByRecursion (λ k. 1 ≤ k) (firsts n m r ++ ks)
   all_firsts n m zero ks h l a = a
   all_firsts n m (suc r) ks h l a = (h, (l, all_firsts n m r ks h l a))
 
-  all_same : (r n : ℕ) → 1 ≤ n → All (λ k. 1 ≤ k) (replicate r n)
+  all_same : (r n : ℕ) → 1 ≤ n → AllByRecursion (λ k. 1 ≤ k) (replicate r n)
   all_same zero n h = tt
   all_same (suc r) n h = (h, all_same r n h)
 

@@ -1,6 +1,6 @@
 -- The first refusal of all vectors is the earliest thing wrong with the whole signature.
 use Rattle.std.proofs.Common.{◌≡◌, ℕ, ◌+◌, ◌<◌, ◌≤◌, ◌⊎◌, List, [], ◌∷◌, Ok, Err, Result, refl, subst, inl, inr, arith}
-use Rattle.std.specs.List.{AllByRecursion as All}
+use Rattle.std.specs.List.{AllByRecursion}
 use Rattle.refusal.specs.declared.Refusal.{Refusal}
 use Rattle.refusal.specs.Outcome.{and_then}
 use Rattle.packing.specs.Packed.{width}
@@ -71,7 +71,7 @@ module _ (q b : ℕ) (sig : List ℕ) (some : 1 ≤ b) where
       judges_tail : (r : Result (Unit {0}) Refusal) → Judges (In (at + width b k) ks) r → Judges (In at (k ∷ ks)) r
       judges_tail r i = judges_same r (rest_in at k ks) (λ n p w. elim (one_of at k ks n p w) [ inl u ↦ absurd (j n p u) | inr u ↦ u ]) i
 
-  pub judged_scan : (at : ℕ) (ks : List ℕ) → All (λ k. 1 ≤ k) ks → Judges (In at ks) (scan_from q b sig at ks)
+  pub judged_scan : (at : ℕ) (ks : List ℕ) → AllByRecursion (λ k. 1 ≤ k) ks → Judges (In at ks) (scan_from q b sig at ks)
   judged_scan at [] a = λ n p w. w.1.1.0
   judged_scan at (k ∷ ks) a =
       step at k ks a.0 (vector_check_at q b sig at k) (judged q b k (part sig at (width b k)) at some) (judged_scan (at + width b k) ks a.1)

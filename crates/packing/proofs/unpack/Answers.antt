@@ -1,5 +1,5 @@
 use Rattle.std.proofs.Common.{◌≡◌, ℕ, ◌<◌, List, length, sym, ap, ◌∙◌, arith}
-use Rattle.std.specs.List.{AllByRecursion as All}
+use Rattle.std.specs.List.{AllByRecursion}
 use Rattle.std.proofs.ByRecursion.{All-from_get_or}
 use Rattle.packing.specs.Packed.{width, elements, signature_refusal_of}
 use Rattle.packing.specs.Laws.{Wrong}
@@ -13,7 +13,7 @@ returns-in-Ok c =
     let b : ℕ = c.args.encoding.bits in
     let k : ℕ = length c.args.out.now in
     let bytes : List ℕ = c.args.bytes.now in
-    let a : All (λ x. x < 256) bytes = All-from_get_or (λ x. x < 256) bytes 0 (λ i h. omega (arith, c.type_inv.bytes i)) in
+    let a : AllByRecursion (λ x. x < 256) bytes = All-from_get_or (λ x. x < 256) bytes 0 (λ i h. omega (arith, c.type_inv.bytes i)) in
     let long : length bytes ≡ width b k = c.if-bytes-width.false ∙ c.width.ensures.value in
     let made = c.read.ensures ∙ ap (λ (n : ℕ). elements b n bytes) c.fill.ensures.len in
     let w = reads (signature_refusal_of b 0 k) (Wrong q b 0 k bytes) q b k bytes (judged q b k bytes 0 c.args.encoding.some) c.read.new.out c.args.encoding.some c.args.encoding.fits a long (sym c.in-Ok.ensures) made in
