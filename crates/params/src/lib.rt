@@ -1,11 +1,15 @@
 // Parameter sets, and the sizes that follow from them.
 #![tactic(auto)]
 
-ghost use Rattle.std.specs.Prelude.{◌≡◌, ◌≤◌, true};
-ghost use Rattle.params.specs.Sets.{good, set_of};
+ghost use Rattle.std.specs.Prelude.{◌≡◌, ◌≤◌, true, IfOk};
+ghost use Rattle.refusal.specs.Outcome.{told};
+ghost use Rattle.params.specs.Sets.{set_of};
 ghost use Rattle.params.specs.Sizes.{coefficients_of, key_length, signature_length};
 ghost use Rattle.field.specs.Coding.{reads};
 
+mod good;
+
+pub use good::GoodSet;
 use packing::encoding::Encoding;
 use refusal::Refusal;
 
@@ -33,45 +37,42 @@ pub fn drawing_len(count: usize) -> usize
 
 impl Set {
     // Refused unless n and m are 1 to 64 and r is 1 to 269.
-    pub fn check(self) -> Result<(), Refusal>
-        ensures { result ≡ set_of self }
+    pub fn check(self) -> Result<GoodSet, Refusal>
+        ensures answer { told result ≡ set_of self }
+        ensures set { IfOk result (λ good. good.set ≡ self) }
     {
-        if self.n >= 1
-            && self.n <= 64
-            && self.m >= 1
-            && self.m <= 64
-            && self.r >= 1
-            && self.r <= 269
-        {
-            Ok(())
+        let Set { n, m, r } = self;
+        if (1..=64).contains(&n) && (1..=64).contains(&m) && (1..=269).contains(&r) {
+            Ok(GoodSet { set: self })
         } else {
             Err(Refusal::BadSet)
         }
     }
+}
 
+impl GoodSet {
     // How many coefficients the map has.
     pub fn coefficients(self) -> usize
-        requires { good self ≡ true }
-        ensures value { result ≡ coefficients_of self }
+        ensures value { result ≡ coefficients_of self.set }
         ensures few { result ≤ 137216 }
     {
-        self.m * (self.n * (self.n + 1) / 2 + self.n)
+        let Set { n, m, r: _ } = self.set;
+        m * (n * (n + 1) / 2 + n)
     }
 
     // The bytes of a public key.
     pub fn key_len(self, encoding: Encoding) -> usize
-        requires { good self ≡ true }
-        ensures { result ≡ key_length encoding.bits self }
+        ensures { result ≡ key_length encoding.bits self.set }
     {
-        32 + encoding.width(self.m)
+        32 + encoding.width(self.set.m)
     }
 
     // The bytes of a signature.
     pub fn signature_len(self, encoding: Encoding) -> usize
-        requires { good self ≡ true }
-        ensures value { result ≡ signature_length encoding.bits self }
+        ensures value { result ≡ signature_length encoding.bits self.set }
         ensures few { result ≤ 60320 }
     {
-        64 + self.r * (32 + 2 * encoding.width(self.n) + encoding.width(self.m))
+        let Set { n, m, r } = self.set;
+        64 + r * (32 + 2 * encoding.width(n) + encoding.width(m))
     }
 }

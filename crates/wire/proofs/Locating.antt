@@ -1,14 +1,15 @@
 -- The vector that holds a byte, by quotient and remainder.
-use Rattle.std.proofs.Common.{◌≡◌, ℕ, ◌+◌, ◌-◌, ◌*◌, ◌/◌, ◌%◌, ◌<◌, ◌≤◌, refl, arith}
+use Rattle.std.proofs.Common.{◌≡◌, ℕ, ◌+◌, ◌-◌, ◌*◌, ◌/◌, ◌%◌, ◌<◌, ◌≤◌, arith}
 use Rattle.std.proofs.lemmas.Nat.{div-add-mod', mod_below, mul-le}
 use Rattle.packing.specs.Packed.{width}
 use Rattle.packing.proofs.Widths.{width_some}
 use Rattle.params.specs.declared.Set.{Set}
 use Rattle.params.proofs.Bounds.{Bounds}
 use Rattle.wire.specs.declared.locate.Kind.{Kind}
+use Rattle.wire.specs.declared.locate.Vector.{Vector}
 use Rattle.wire.specs.declared.locate.Kind.TheVariants.{T1, E1, Response}
 use Rattle.wire.specs.Layout.{response_at}
-use Rattle.wire.specs.Located.{Lies, Found}
+use Rattle.wire.specs.Located.{start_of, elements_of, Lies, Found}
 
 module _ (b : ℕ) (s : Set) (place : ℕ) (some : 1 ≤ b) (k : Bounds s) where
   abbrev of_n : ℕ
@@ -43,7 +44,7 @@ module _ (b : ℕ) (s : Set) (place : ℕ) (some : 1 ≤ b) (k : Bounds s) where
   -- among the responses
   module _ (h : response_at b s 0 ≤ place) where
     abbrev late : ℕ
-    late = place - (64 + s.r * both)
+    late = place - response_at b s 0
 
     abbrev turn : ℕ
     turn = late / of_n
@@ -71,25 +72,29 @@ in_front b s place h T1 i p = omega (arith, p.from)
 in_front b s place h E1 i p = omega (arith, p.from)
 in_front b s place h Response i p = omega (arith, p.from)
 
--- the same of widths that a program worked out
-module _ (b : ℕ) (s : Set) (place : ℕ) (some : 1 ≤ b) (k : Bounds s) (p q : ℕ) (e : p ≡ width b s.n) (f : q ≡ width b s.m) where
-  pub n_pos : 0 < p
-  n_pos = omega (arith, n_some b s place some k)
+-- the vector of a kind and a round, where the byte lies in it
+pub found : {b : ℕ} {s : Set} {place : ℕ} {k : Kind} {i : ℕ} (v : Vector) → v.kind ≡ k → v.round ≡ i → v.at ≡ start_of b s k i → v.elements ≡ elements_of s k → Lies b s place k i → Found b s place v
+found v e f at elements l = record {
+  lies = rw (e, f) l;
+  at = rw (e, f) at;
+  elements = rw e elements;
+}
 
-  pub t1_found : 64 ≤ place → (place - 64) / (p + q) < s.r → (place - 64) % (p + q) < p
-      → Found b s place (record { round = (place - 64) / (p + q); kind = T1; at = 64 + (place - 64) / (p + q) * (p + q); elements = s.n })
-  t1_found h l m = rw (e, f) (record { lies = in_t1 b s place some k h (rw (e, f) at l) (rw (e, f) at m); at = refl; elements = refl })
+-- the same of widths and starts that a program worked out
+module _ (b : ℕ) (s : Set) (place : ℕ) (some : 1 ≤ b) (k : Bounds s) where
+  module _ (p q : ℕ) (e : p ≡ width b s.n) (f : q ≡ width b s.m) (h : 64 ≤ place) where
+    pub lies_t1 : (place - 64) / (p + q) < s.r → (place - 64) % (p + q) < p → Lies b s place T1 ((place - 64) / (p + q))
+    lies_t1 l m = rw (e, f) (in_t1 b s place some k h (rw (e, f) at l) (rw (e, f) at m))
 
-  pub e1_found : 64 ≤ place → (place - 64) / (p + q) < s.r → p ≤ (place - 64) % (p + q)
-      → Found b s place (record { round = (place - 64) / (p + q); kind = E1; at = 64 + (place - 64) / (p + q) * (p + q) + p; elements = s.m })
-  e1_found h l m = rw (e, f) (record { lies = in_e1 b s place some k h (rw (e, f) at l) (rw (e, f) at m); at = refl; elements = refl })
+    pub lies_e1 : (place - 64) / (p + q) < s.r → p ≤ (place - 64) % (p + q) → Lies b s place E1 ((place - 64) / (p + q))
+    lies_e1 l m = rw (e, f) (in_e1 b s place some k h (rw (e, f) at l) (rw (e, f) at m))
 
-  pub first_behind : 64 ≤ place → s.r ≤ (place - 64) / (p + q) → response_at b s 0 ≤ place
-  first_behind h l = behind_all b s place some k h (rw (e, f) at l)
+    pub first_behind : s.r ≤ (place - 64) / (p + q) → response_at b s 0 ≤ place
+    first_behind l = behind_all b s place some k h (rw (e, f) at l)
 
-  pub response_found : response_at b s 0 ≤ place → (place - (64 + s.r * (p + q))) / p < s.r
-      → Found b s place (record { round = (place - (64 + s.r * (p + q))) / p; kind = Response; at = 64 + s.r * (p + q) + (place - (64 + s.r * (p + q))) / p * p; elements = s.n })
-  response_found h l = rw (e, f) (record { lies = in_response b s place some k h (rw (e, f) at l); at = refl; elements = refl })
+  module _ (o w : ℕ) (e : o ≡ response_at b s 0) (f : w ≡ width b s.n) (h : response_at b s 0 ≤ place) where
+    pub lies_response : (place - o) / w < s.r → Lies b s place Response ((place - o) / w)
+    lies_response l = rw (e, f) (in_response b s place some k h (rw (e, f) at l))
 
-  pub none_found : response_at b s 0 ≤ place → s.r ≤ (place - (64 + s.r * (p + q))) / p → (v : Kind) (i : ℕ) → Lies b s place v i → ⊥
-  none_found h l = in_none b s place some k h (rw (e, f) at l)
+    pub lies_nowhere : s.r ≤ (place - o) / w → (v : Kind) (i : ℕ) → Lies b s place v i → ⊥
+    lies_nowhere l = in_none b s place some k h (rw (e, f) at l)

@@ -1,10 +1,10 @@
 // Which vector of a signature holds a byte.
-ghost use Rattle.std.specs.Prelude.{◌≡◌, ◌≤◌, true};
-ghost use Rattle.params.specs.Sets.{good};
+ghost use Rattle.std.specs.Prelude.{◌≡◌, ◌≤◌, ◌<◌};
 ghost use Rattle.wire.specs.Layout.{response_at};
-ghost use Rattle.wire.specs.Located.{Locates};
+ghost use Rattle.wire.specs.Located.{Locates, start_of, elements_of};
 
 use crate::VECTORS;
+use crate::layout::Layout;
 use packing::encoding::Encoding;
 use params::Set;
 
@@ -25,65 +25,62 @@ pub struct Vector {
     pub elements: usize,
 }
 
-// The vector that holds byte `place`, which is none of R and σ0.
-fn find(encoding: Encoding, set: Set, place: usize) -> Option<Vector>
-    requires good { good set ≡ true }
-    requires behind { 64 ≤ place }
-    ensures { Locates encoding.bits set place result }
-{
-    let of_n = encoding.width(set.n);
-    let both = of_n + encoding.width(set.m);
-    let behind = place - VECTORS;
-    let round = behind / both;
-    if round < set.r {
-        let at = VECTORS + round * both;
-        if behind % both < of_n {
-            return Some(Vector {
-                round,
-                kind: Kind::T1,
-                at,
-                elements: set.n,
-            });
+impl Layout {
+    // A vector of a round.
+    fn vector(self, kind: Kind, round: usize) -> Vector
+        requires { round < self.set.set.r }
+        ensures round { result.round ≡ round }
+        ensures kind { result.kind ≡ kind }
+        ensures at { result.at ≡ start_of self.encoding.bits self.set.set kind round }
+        ensures elements { result.elements ≡ elements_of self.set.set kind }
+    {
+        Vector {
+            round,
+            kind,
+            at: self.start(kind, round),
+            elements: self.elements(kind),
         }
-        return Some(Vector {
-            round,
-            kind: Kind::E1,
-            at: at + of_n,
-            elements: set.m,
-        });
     }
-    find_response(encoding, set, place)
-}
 
-// The response that holds byte `place`, which lies behind t1 and e1 of all rounds.
-fn find_response(encoding: Encoding, set: Set, place: usize) -> Option<Vector>
-    requires good { good set ≡ true }
-    requires behind { response_at encoding.bits set 0 ≤ place }
-    ensures { Locates encoding.bits set place result }
-{
-    let of_n = encoding.width(set.n);
-    let first = VECTORS + set.r * (of_n + encoding.width(set.m));
-    let round = (place - first) / of_n;
-    if round < set.r {
-        return Some(Vector {
-            round,
-            kind: Kind::Response,
-            at: first + round * of_n,
-            elements: set.n,
-        });
+    // The vector that holds byte `place`, which is none of R and σ0.
+    fn find(self, place: usize) -> Option<Vector>
+        requires { 64 ≤ place }
+        ensures { Locates self.encoding.bits self.set.set place result }
+    {
+        let of_n = self.encoding.width(self.set.set.n);
+        let both = of_n + self.encoding.width(self.set.set.m);
+        let behind = place - VECTORS;
+        let round = behind / both;
+        if round >= self.set.set.r {
+            return self.find_response(place);
+        }
+        if behind % both < of_n {
+            return Some(self.vector(Kind::T1, round));
+        }
+        Some(self.vector(Kind::E1, round))
     }
-    None
+
+    // The response that holds byte `place`, which lies behind t1 and e1 of all rounds.
+    fn find_response(self, place: usize) -> Option<Vector>
+        requires { response_at self.encoding.bits self.set.set 0 ≤ place }
+        ensures { Locates self.encoding.bits self.set.set place result }
+    {
+        let round = (place - self.start(Kind::Response, 0)) / self.width(Kind::Response);
+        if round < self.set.set.r {
+            Some(self.vector(Kind::Response, round))
+        } else {
+            None
+        }
+    }
 }
 
 // The vector that holds byte `place` of a signature; none where no vector does, or the set is not lawful.
 pub fn vector_at(encoding: Encoding, set: Set, place: usize) -> Option<Vector>
     ensures { Locates encoding.bits set place result }
 {
-    if let Err(_) = set.check() {
-        return None;
-    }
+    let set = set.check().ok()?;
     if place < VECTORS {
         return None;
     }
-    find(encoding, set, place)
+    Layout { set, encoding }.find(place)
 }

@@ -2,7 +2,7 @@ use Rattle.wire.proofs.Rounds.{Firsts, Responses}
 use Rattle.wire.proofs.scan.Given as goal
 
 abbrev pub invariant-loop-i : goal.invariant-loop-i
-invariant-loop-i l = Firsts l.encoding.order l.encoding.bits l.set l.signature l.i l.at
+invariant-loop-i l = Firsts l.layout.encoding.order l.layout.encoding.bits l.layout.set.set l.signature l.i
 
 abbrev pub invariant-loop-j : goal.invariant-loop-j
-invariant-loop-j l = Responses l.encoding.order l.encoding.bits (record { n = l.n; m = l.m; r = l.j-end }) l.signature l.j l.at
+invariant-loop-j l = Responses l.layout.encoding.order l.layout.encoding.bits l.layout.set.set l.signature l.j
