@@ -1,11 +1,4 @@
-// The sizes of the scheme: its limits, and the sections of a signature.
-ghost use Rattle.std.specs.Prelude.{◌≡◌, ◌+◌, ◌*◌, ◌≤◌, true};
-ghost use Rattle.packing.specs.Packed.{width};
-ghost use Rattle.params.specs.Sets.{good};
-ghost use Rattle.scheme.specs.Verifying.{answers_length};
-
-use packing::encoding::Encoding;
-use params::Set;
+// The limits of the scheme.
 
 // The most bytes that a message has.
 pub const MESSAGE_LIMIT: usize = 65_536;
@@ -14,21 +7,3 @@ pub const MESSAGE_LIMIT: usize = 65_536;
 pub const ROUNDS: usize = 269;
 
 pub const CHALLENGES: usize = 366;
-
-// The bytes of σ1, the first answers.
-pub fn answers_len(encoding: Encoding, set: Set) -> usize
-    requires { good set ≡ true }
-    ensures value { result ≡ answers_length encoding.bits set }
-    ensures few { result ≤ 60256 }
-{
-    set.r * (encoding.width(set.n) + encoding.width(set.m))
-}
-
-// The bytes of the responses.
-pub fn responses_len(encoding: Encoding, set: Set) -> usize
-    requires { good set ≡ true }
-    ensures value { result ≡ set.r * width encoding.bits set.n }
-    ensures few { result ≤ 60256 }
-{
-    set.r * encoding.width(set.n)
-}

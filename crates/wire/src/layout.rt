@@ -54,6 +54,23 @@ impl Layout {
         }
     }
 
+    // The bytes of σ1, the first answers of all rounds.
+    pub fn answers_len(self) -> usize
+        ensures value { result ≡ self.set.set.r * (width_of self.encoding.bits self.set.set.n + width_of self.encoding.bits self.set.set.m) }
+        ensures few { result ≤ 60256 }
+    {
+        let Set { n, m, r } = self.set.set;
+        r * (self.encoding.width(n) + self.encoding.width(m))
+    }
+
+    // The bytes of the responses of all rounds.
+    pub fn responses_len(self) -> usize
+        ensures value { result ≡ self.set.set.r * width_of self.encoding.bits self.set.set.n }
+        ensures few { result ≤ 60256 }
+    {
+        self.set.set.r * self.encoding.width(self.set.set.n)
+    }
+
     // The first byte of the commitment that a round carries.
     pub fn carried(self, round: usize) -> usize
         requires { round ≤ self.set.set.r }
