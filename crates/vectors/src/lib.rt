@@ -1,7 +1,7 @@
 // Vectors over any field: sums and differences entry by entry, and the packed form.
 #![tactic(auto)]
 
-ghost use Rattle.std.specs.Prelude.{◌≡◌, ◌<◌, length};
+ghost use Rattle.std.specs.Prelude.{◌≡◌, ℕ, ◌<◌, length, slice_index};
 ghost use Rattle.field.specs.Codes.{Codes};
 ghost use Rattle.algebra.specs.Quad.{vadd, vsub, scale};
 
@@ -18,9 +18,7 @@ pub fn sum<F: Field>(x: &[u8], y: &[u8], out: &mut [u8])
     ensures value { out.new ≡ vadd F.Field.coding.ops (length out.old) x.now y.now }
     ensures codes { Codes F.Field.coding.q out.new }
 {
-    for k in 0..out.len() {
-        out[k] = F::add(x[k], y[k]);
-    }
+    each(x, y, out, |a, b| F::add(a, b));
 }
 
 // x - y.
@@ -32,9 +30,7 @@ pub fn difference<F: Field>(x: &[u8], y: &[u8], out: &mut [u8])
     ensures value { out.new ≡ vsub F.Field.coding.ops (length out.old) x.now y.now }
     ensures codes { Codes F.Field.coding.q out.new }
 {
-    for k in 0..out.len() {
-        out[k] = F::sub(x[k], y[k]);
-    }
+    each(x, y, out, |a, b| F::sub(a, b));
 }
 
 // a·x - y.
@@ -47,8 +43,27 @@ pub fn scaled_difference<F: Field>(a: u8, x: &[u8], y: &[u8], out: &mut [u8])
     ensures value { out.new ≡ vsub F.Field.coding.ops (length out.old) (scale F.Field.coding.ops (length out.old) a x.now) y.now }
     ensures codes { Codes F.Field.coding.q out.new }
 {
-    for k in 0..out.len() {
-        let scaled = F::mul(a, x[k]);
-        out[k] = F::sub(scaled, y[k]);
+    each(
+        x,
+        y,
+        out,
+        |u, v| -> u8
+            requires u { u < F.Field.coding.q }
+            requires v { v < F.Field.coding.q }
+            requires a { a < F.Field.coding.q }
+        { F::sub(F::mul(a, u), v) },
+    );
+}
+
+// Writes what `entry` gives of the entries of x and y, place by place.
+// By index: after a `zip` that lends out the places of `out`, a proof knows nothing of what stands in them.
+fn each<T: Fn(u8, u8) -> u8>(x: &[u8], y: &[u8], out: &mut [u8], entry: T)
+    requires x { length x.now ≡ length out.old }
+    requires y { length y.now ≡ length out.old }
+    requires callable { (k : ℕ) → k < length out.old → T.pre entry (slice_index x.now k) (slice_index y.now k) }
+    ensures { (k : ℕ) → k < length out.old → T.post entry (slice_index x.now k) (slice_index y.now k) (slice_index out.new k) }
+{
+    for (k, place) in out.iter_mut().enumerate() {
+        *place = entry(x[k], y[k]);
     }
 }
