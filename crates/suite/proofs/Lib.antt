@@ -1,3 +1,2 @@
 pub mod Sifts
 pub mod Draws
-pub mod Limits

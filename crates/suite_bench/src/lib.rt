@@ -5,8 +5,7 @@ ghost use Rattle.std.specs.Prelude.{◌≡◌, ℕ, ◌+◌, ◌%◌, ◌^◌, �
 ghost use Rattle.suite_bench.specs.Sums.{lane, bench_meaning};
 ghost use Rattle.suite_bench.specs.Laws.{bench_lawful};
 
-use refusal::Refusal;
-use suite::{DIGEST_LIMIT, STREAM_LIMIT, Suite};
+use suite::Suite;
 
 #[derive(Clone, Copy)]
 pub struct Bench;
@@ -29,31 +28,16 @@ impl Suite for Bench {
 
     ghost lawful = { λ s. bench_lawful };
 
-    fn digest(
-        &self,
-        label: u8,
-        head: &[u8],
-        tail: &[u8],
-        out: &mut [u8; 32],
-    ) -> Result<(), Refusal> {
-        if head.len() > DIGEST_LIMIT || tail.len() > DIGEST_LIMIT - head.len() {
-            out.fill(0);
-            return Err(Refusal::SuiteLimit { label });
-        }
-        out.fill(label);
-        absorb(out, 0, head);
-        absorb(out, head.len(), tail);
-        Ok(())
+    fn digest_within(&self, label: u8, head: &[u8], tail: &[u8]) -> [u8; 32] {
+        let mut out = [label; 32];
+        absorb(&mut out, 0, head);
+        absorb(&mut out, head.len(), tail);
+        out
     }
 
-    fn stream(&self, label: u8, seed: &[u8; 32], out: &mut [u8]) -> Result<(), Refusal> {
-        if out.len() > STREAM_LIMIT {
-            out.fill(0);
-            return Err(Refusal::SuiteLimit { label });
-        }
+    fn stream_within(&self, label: u8, seed: &[u8; 32], out: &mut [u8]) {
         for (k, b) in out.iter_mut().enumerate() {
             *b = seed[k % 32].wrapping_add(label);
         }
-        Ok(())
     }
 }

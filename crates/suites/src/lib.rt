@@ -7,7 +7,6 @@ ghost use Rattle.suite_bench.specs.Laws.{bench_lawful};
 ghost use Rattle.suite_keccak.specs.Laws.{keccak_lawful};
 ghost use Rattle.suites.specs.declared.Named.TheVariants.{Bench, Keccak};
 
-use refusal::Refusal;
 use suite::Suite;
 use suite_bench::Bench;
 use suite_keccak::Keccak;
@@ -38,23 +37,17 @@ impl Suite for Named {
 
     ghost lawful = { elim [ Bench ↦ bench_lawful | Keccak ↦ keccak_lawful ] };
 
-    fn digest(
-        &self,
-        label: u8,
-        head: &[u8],
-        tail: &[u8],
-        out: &mut [u8; 32],
-    ) -> Result<(), Refusal> {
+    fn digest_within(&self, label: u8, head: &[u8], tail: &[u8]) -> [u8; 32] {
         match self {
-            Named::Bench => Bench.digest(label, head, tail, out),
-            Named::Keccak => Keccak.digest(label, head, tail, out),
+            Named::Bench => Bench.digest_within(label, head, tail),
+            Named::Keccak => Keccak.digest_within(label, head, tail),
         }
     }
 
-    fn stream(&self, label: u8, seed: &[u8; 32], out: &mut [u8]) -> Result<(), Refusal> {
+    fn stream_within(&self, label: u8, seed: &[u8; 32], out: &mut [u8]) {
         match self {
-            Named::Bench => Bench.stream(label, seed, out),
-            Named::Keccak => Keccak.stream(label, seed, out),
+            Named::Bench => Bench.stream_within(label, seed, out),
+            Named::Keccak => Keccak.stream_within(label, seed, out),
         }
     }
 }
