@@ -7,6 +7,9 @@ ghost use Rattle.suite_bench.specs.Laws.{bench_lawful};
 ghost use Rattle.suite_keccak.specs.Laws.{keccak_lawful};
 ghost use Rattle.suites.specs.declared.Named.TheVariants.{Bench, Keccak};
 
+mod names;
+
+pub use names::UnknownSuite;
 use suite::Suite;
 use suite_bench::Bench;
 use suite_keccak::Keccak;
@@ -24,11 +27,7 @@ impl Named {
         ensures keccak { name.now ≡ codes "keccak" → result ≡ Some Named.Keccak }
         ensures other { (name.now ≢ codes "bench") → (name.now ≢ codes "keccak") → result ≡ None }
     {
-        match name {
-            "bench" => Some(Named::Bench),
-            "keccak" => Some(Named::Keccak),
-            _ => None,
-        }
+        name.parse().ok()
     }
 }
 
