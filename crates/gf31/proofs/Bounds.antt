@@ -7,11 +7,12 @@ use Rattle.field.specs.Terms.{pairs}
 use Rattle.field.proofs.Pairs.{length_pairs}
 use Rattle.gf31.specs.Whole.{whole, AtMonomials}
 
-pub pair_few : (a b : ℕ) → a < 31 → b < 31 → a * b ≤ 900
+pair_few : (a b : ℕ) → a < 31 → b < 31 → a * b ≤ 900
 pair_few a b h k = mul-le a b 30 30 (omega arith) (omega arith)
 
-pub product_few : (a b : List ℕ) (i : ℕ) → i < length a → i < length b → Codes 31 a → Codes 1801 b → get_or a i 0 * get_or b i 0 ≤ 54000
-product_few a b i h k p q = mul-le (get_or a i 0) (get_or b i 0) 30 1800 (omega (arith, p i h)) (omega (arith, q i k))
+-- of a code and a term at the same place
+pub product_few : (a b : List ℕ) (i x y : ℕ) → i < length a → i < length b → x ≡ get_or a i 0 → y ≡ get_or b i 0 → Codes 31 a → Codes 1801 b → x * y ≤ 54000
+product_few a b i x y h k e f p q = mul-le x y 30 1800 (omega (arith, p i h)) (omega (arith, q i k))
 
 -- a sum of products whose second factors are at most b
 bounded : (b : ℕ) (cs ys : List ℕ) → Codes 31 cs → Codes (b + 1) ys → whole cs ys ≤ 30 * b * length ys

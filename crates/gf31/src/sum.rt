@@ -14,8 +14,8 @@ pub fn whole_sum(cs: &[u8], terms: &[u16]) -> u32
     ensures equation { AtMonomials terms.now result }
 {
     let mut sum = 0u32;
-    for i in 0..cs.len() {
-        sum += (cs[i] as u16 * terms[i]) as u32;
+    for (&c, &term) in cs.iter().zip(terms) {
+        sum += (c as u16 * term) as u32;
     }
     sum
 }

@@ -1,27 +1,23 @@
-use Rattle.std.proofs.Common.{◌≡◌, ◌<◌, length, drop, arith}
+use Rattle.std.proofs.Common.{◌≡◌, length, arith, drop}
+use Rattle.std.proofs.lemmas.Grind.{common_steps}
+use Rattle.std.proofs.lemmas.Slice.Zip.{zip_turn, zip_end}
 use Rattle.gf31.specs.Whole.{whole}
 use Rattle.gf31.proofs.Bounds.{product_few, at_monomials}
 use Rattle.gf31.proofs.Wholes.{whole_more, whole_all}
 use Rattle.gf31.proofs.sum.whole_sum.Goals as goal
 
 pub overflow_mul-sum : goal.overflow_mul-sum
-overflow_mul-sum c = omega (arith, product_few c.args.cs.now c.args.terms.now c.loop-i.i (omega arith) (omega arith) c.requires.codes c.requires.small)
+overflow_mul-sum c =
+    let t = zip_turn c.args.cs.now c.args.terms.now c.loop-c.yielded c.into_iter-c-iterator.result c.loop-c.c-iterator c.next.new.self _ (cc) (cc) c.loop-c.yielded_by _ c.in-Some.is c.next.ensures.steps in
+    omega (arith, product_few _ _ _ _ _ t.0 t.1 (t.2 0) (t.3 0) c.requires.codes c.requires.small)
 
-pub overflow_add-sum : goal.overflow_add-sum
-overflow_add-sum c = omega (arith, product_few c.args.cs.now c.args.terms.now c.loop-i.i (omega arith) (omega arith) c.requires.codes c.requires.small)
+pub loop-c-preserved : goal.loop-c-preserved
+loop-c-preserved c =
+    let t = zip_turn c.args.cs.now c.args.terms.now c.loop-c.yielded c.into_iter-c-iterator.result c.loop-c.c-iterator c.next.new.self _ (cc) (cc) c.loop-c.yielded_by _ c.in-Some.is c.next.ensures.steps in
+    grind (arith, common_steps, product_few _ _ _ _ _ t.0 t.1 (t.2 0) (t.3 0) c.requires.codes c.requires.small, whole_more c.args.cs.now c.args.terms.now _ t.0 t.1)
 
-pub loop-i-preserved : goal.loop-i-preserved
-loop-i-preserved c =
-    let h : c.loop-i.i < length c.args.cs.now = omega arith in
-    let k : c.loop-i.i < length c.args.terms.now = omega arith in
-    let e = whole_more c.args.cs.now c.args.terms.now c.loop-i.i h k in
-    (omega arith, omega (arith, product_few c.args.cs.now c.args.terms.now c.loop-i.i h k c.requires.codes c.requires.small))
-
-pub returns : goal.returns
-returns c =
-    let e : c.loop-i.sum ≡ whole c.args.cs.now c.args.terms.now = omega (arith, whole_all c.args.cs.now (drop c.loop-i.i c.args.terms.now) c.loop-i.i c.loop-i-test.false) in
-    record {
-      value = e;
-      bound = omega arith;
-      equation = at_monomials c.args.cs.now c.args.terms.now c.loop-i.sum e c.requires.codes;
-    }
+pub returns-clause-equation : goal.returns-clause-equation
+returns-clause-equation c =
+    let t = zip_end c.args.cs.now c.args.terms.now c.loop-c.yielded c.into_iter-c-iterator.result c.loop-c.c-iterator c.next.new.self _ (cc) (cc) c.loop-c.yielded_by c.in-None.is c.next.ensures.steps in
+    let e : c.loop-c.sum ≡ whole c.args.cs.now c.args.terms.now = omega (arith, t, c.loop-c.invariant.0, whole_all c.args.cs.now (drop (length c.loop-c.yielded) c.args.terms.now) (length c.loop-c.yielded) (omega (arith, t))) in
+    at_monomials c.args.cs.now c.args.terms.now c.loop-c.sum e c.requires.codes
