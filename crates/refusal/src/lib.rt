@@ -6,25 +6,25 @@ ghost use Rattle.refusal.specs.Numbers.{numbers_of, layer_of, buffer_of};
 
 mod shown;
 
-// The part of the kit that was called.
+// The part of the kit that was called, by its number.
 #[derive(Clone, Copy, PartialEq, Eq, Debug)]
 pub enum Layer {
-    Packing,
-    Suite,
-    Signature,
-    Watch,
-    Bundle,
-    Identification,
+    Packing = 1,
+    Suite = 2,
+    Signature = 3,
+    Watch = 4,
+    Bundle = 5,
+    Identification = 6,
 }
 
-// A buffer that the caller lends.
+// A buffer that the caller lends, by its place in a refusal.
 #[derive(Clone, Copy, PartialEq, Eq, Debug)]
 pub enum Buffer {
-    Map,
-    List,
-    Secret,
-    Answer,
-    Store,
+    Map = 1,
+    List = 2,
+    Secret = 3,
+    Answer = 4,
+    Store = 5,
 }
 
 // Named by what was turned away; `numbers_of` has the number, layer and place of each case.
@@ -57,14 +57,7 @@ impl Layer {
     pub fn number(self) -> u8
         ensures { result ≡ layer_of self }
     {
-        match self {
-            Layer::Packing => 1,
-            Layer::Suite => 2,
-            Layer::Signature => 3,
-            Layer::Watch => 4,
-            Layer::Bundle => 5,
-            Layer::Identification => 6,
-        }
+        self as u8
     }
 }
 
@@ -72,18 +65,12 @@ impl Buffer {
     pub fn place(self) -> usize
         ensures { result ≡ buffer_of self }
     {
-        match self {
-            Buffer::Map => 1,
-            Buffer::List => 2,
-            Buffer::Secret => 3,
-            Buffer::Answer => 4,
-            Buffer::Store => 5,
-        }
+        self as usize
     }
 }
 
 impl Refusal {
-    // Number, layer and place.
+    // Number, layer and place. By a `match`: a case with fields has no discriminant, and its place stands in them.
     pub fn numbers(self) -> (u8, u8, usize)
         ensures { result ≡ numbers_of self }
     {
@@ -103,8 +90,8 @@ impl Refusal {
             Refusal::BundleHeader { place } => (13, 5, place),
             Refusal::BundleLayout { item } => (14, 5, item),
             Refusal::BundleItem { item } => (15, 5, item),
-            Refusal::SuiteLimit { label } => (16, 2, label as usize),
-            Refusal::TooFewElements { label } => (17, 2, label as usize),
+            Refusal::SuiteLimit { label } => (16, 2, usize::from(label)),
+            Refusal::TooFewElements { label } => (17, 2, usize::from(label)),
             Refusal::OutOfTurn { layer } => (18, layer.number(), 0),
         }
     }
