@@ -1,14 +1,8 @@
-//! A message through each form of a hash: in one piece, and in parts.
+//! Whether each form of a hash, of a message in one piece and in parts, gives what is expected.
 use std::alloc::{AllocError, Global};
 
-#[derive(Clone, Copy)]
-pub enum Hash {
-    Sha3,
-    Shake,
-}
-
-// Whether each form of SHA3-256 gives `expected`.
-fn sha3_gives(message: &[u8], expected: &[u8]) -> bool {
+/// Whether each form of SHA3-256 gives `expected`.
+pub fn sha3_gives(message: &[u8], expected: &[u8]) -> bool {
     if sha3::sha3_256(message).as_slice() != expected {
         return false;
     }
@@ -16,13 +10,14 @@ fn sha3_gives(message: &[u8], expected: &[u8]) -> bool {
         return true;
     };
     let (head, tail) = rest.split_at(rest.len() / 3);
-    sha3::sha3_256_parts(*label, head, tail).as_slice() == expected
-        && sha3::sha3_256_parts(*label, rest, &[]).as_slice() == expected
-        && sha3::sha3_256_parts(*label, &[], rest).as_slice() == expected
+    let gives = |head: &[u8], tail: &[u8]| -> bool {
+        sha3::sha3_256_parts(*label, head, tail).as_slice() == expected
+    };
+    gives(head, tail) && gives(rest, &[]) && gives(&[], rest)
 }
 
-// Whether each form of SHAKE128 gives `expected`.
-fn shake_gives(heap: Global, message: &[u8], expected: &[u8]) -> Result<bool, AllocError> {
+/// Whether each form of SHAKE128 gives `expected`.
+pub fn shake_gives(heap: Global, message: &[u8], expected: &[u8]) -> Result<bool, AllocError> {
     let mut out = vec![in heap; 0u8; expected.len()]?;
     sha3::shake128(message, &mut out);
     if out.as_slice() != expected {
@@ -34,17 +29,4 @@ fn shake_gives(heap: Global, message: &[u8], expected: &[u8]) -> Result<bool, Al
     out.fill(0);
     sha3::shake128_labelled(*label, rest, &mut out);
     Ok(out.as_slice() == expected)
-}
-
-/// Whether each form of the hash of `message` gives `expected`.
-pub fn gives(
-    heap: Global,
-    hash: Hash,
-    message: &[u8],
-    expected: &[u8],
-) -> Result<bool, AllocError> {
-    match hash {
-        Hash::Sha3 => Ok(sha3_gives(message, expected)),
-        Hash::Shake => shake_gives(heap, message, expected),
-    }
 }
