@@ -7,6 +7,8 @@ ghost use Rattle.field.specs.Coding.{Coding, Coded};
 ghost use Rattle.field.specs.Terms.{dot};
 ghost use Rattle.field.specs.Ring.{sub as minus};
 
+pub mod drawing;
+
 use packing::encoding::Encoding;
 
 pub trait Field {
@@ -18,6 +20,8 @@ pub trait Field {
         ensures bits { result.bits ≡ coding.bits }
         ensures order { result.order ≡ coding.q };
 
+    // An element is passed as its code, with the bound at each call: vectors lie in lent bytes, so an element type would be wrapped at
+    // each read and unwrapped at each write.
     fn add(a: u8, b: u8) -> u8
         requires a { a < coding.q }
         requires b { b < coding.q }

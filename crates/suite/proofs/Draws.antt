@@ -1,8 +1,8 @@
 -- What was sifted out of the first bytes of a stream is what is drawn from it.
-use Rattle.std.proofs.Common.{◌≡◌, ℕ, ◌<◌, ◌≤◌, Bool, true, false, leb, List, ◌++◌, length, take, drop, Ok, Err, Result, sym, refl, ap, ◌∙◌, subst, arith}
-use Rattle.std.proofs.lemmas.List.{length-take, take-append-le, take-take, length-take-le, get_or-take, drop_at}
+use Rattle.std.proofs.Common.{◌≡◌, ℕ, ◌<◌, ◌≤◌, Bool, true, false, leb, List, ◌++◌, length, take, Ok, Err, Result, sym, refl, ap, ◌∙◌, subst, arith}
+use Rattle.std.proofs.lemmas.List.{length-take, take-append-le, take-take, length-take-le, get_or-take}
 use Rattle.std.proofs.ByRecursion.{All-get_or}
-use Rattle.std.proofs.lemmas.Bool.{le-leb, lt-leb, leb-true, leb-false}
+use Rattle.std.proofs.lemmas.Bool.{le-leb, lt-leb, leb-true}
 use Rattle.refusal.specs.declared.Refusal.{Refusal}
 use Rattle.refusal.specs.declared.Refusal.TheVariants.{SuiteLimit, TooFewElements}
 use Rattle.refusal.specs.Outcome.{told, written, and_then, unless}
@@ -18,10 +18,6 @@ take_codes q k xs h c i l =
     let w = length-take-le k xs h in
     let lt : i < k = omega arith in
     rw (get_or-take k xs i 0 lt) (c i (omega arith))
-
--- what bytes behind the part were is left
-pub rest_same : (z n : ℕ) (ys xs : List ℕ) → length ys ≡ z → n ≡ z → drop n (ys ++ drop z xs) ≡ drop n xs
-rest_same z n ys xs l e = ap (λ (k : ℕ). drop k (ys ++ drop z xs)) e ∙ drop_at ys (drop z xs) z l ∙ ap (λ (k : ℕ). drop k xs) (sym e)
 
 module _ (K : Coding) (M : Meaning) (label : ℕ) (seed : List ℕ) (n room : ℕ) where
   abbrev out : Result (List ℕ) Refusal
@@ -42,28 +38,6 @@ module _ (K : Coding) (M : Meaning) (label : ℕ) (seed : List ℕ) (n room : �
 
   pub limited : reads n ≤ room → reads n ≤ 262144 → out ≡ drawn K M label seed n
   limited h l = in_room h ∙ rw (le-leb (reads n) 262144 l)
-
-  -- a stream that is refused
-  pub stopped : (m : ℕ) → m ≡ reads n → reads n ≤ room → (e : Refusal) (front : List ℕ) → Err e ≡ told (stream_of M label seed m) → Drew (Err e) front
-  stopped m is h e front s = go (leb (reads n) 262144) refl (s ∙ ap (λ (k : ℕ). told (stream_of M label seed k)) is)
-    where
-      go : (b : Bool) → leb (reads n) 262144 ≡ b
-          → ◌≡◌ {A = Result (Unit {0}) Refusal} (Err e) (told (and_then (unless b (SuiteLimit label)) (λ _. Ok (first (M.e label seed) (reads n)))))
-          → Drew (Err e) front
-      go true t g =
-          let z : ◌≡◌ {A = ℕ} 0 1 = cc in
-          absurd (omega arith)
-      go false t g =
-          let is-e : e ≡ SuiteLimit label = cc in
-          let o : out ≡ Err e = in_room h ∙ rw t (ap Err (sym is-e)) in
-          record {
-            answer = sym (ap told o);
-            holds = subst (λ (d : Result (List ℕ) Refusal). Holds d front) (sym o) tt;
-            law = record {
-              elements = λ w. let z : ◌≡◌ {A = ℕ} 0 1 = cc in absurd (omega arith);
-              enough = λ _ l _. absurd (omega (arith, leb-false (reads n) 262144 t));
-            };
-          }
 
   -- a stream that was written
   module _ (m : ℕ) (is : m ≡ reads n) (h : reads n ≤ room) (xs : List ℕ) (s : Ok tt ≡ told (stream_of M label seed m)) (w : xs ≡ written m (stream_of M label seed m)) where

@@ -1,7 +1,7 @@
 -- One turn of the loop that sifts in place, and its end.
 use Rattle.std.proofs.Common.{◌≡◌, ℕ, ◌+◌, ◌%◌, ◌^◌, ◌<◌, ◌≤◌, Bool, true, false, cond, ltb, List, [], ◌∷◌, ◌++◌, map, length, get_or, take, drop, set, filter, sym, ap, ◌∙◌, arith}
 use Rattle.std.specs.List.{AllByRecursion}
-use Rattle.std.proofs.lemmas.List.{append-nil, length-set, length-take-le, take_all, take_more_set, drop_more, drop-set-lt, map_more}
+use Rattle.std.proofs.lemmas.List.{append-nil, length-set, take_more_set, drop_more, drop-set-lt, map_more}
 use Rattle.std.proofs.lemmas.List.Elements.{filter-append}
 use Rattle.std.proofs.ByRecursion.{kept_by_passes, All-weaker}
 use Rattle.std.proofs.lemmas.Bool.{lt-ltb, le-ltb, ltb-true}
@@ -51,12 +51,6 @@ module _ {q b : ℕ} {xs ys : List ℕ} {k i : ℕ} (p : Sifting q b xs ys k i) 
         within = omega arith;
         long = rw length-set p.long;
       }
-
-  pub sift_all : length xs ≤ i → take k ys ≡ sifted q b xs
-  sift_all h = p.front ∙ ap (sifted q b) (take_all i xs h)
-
-  pub sift_count : length xs ≤ i → k ≡ length (sifted q b xs)
-  sift_count h = sym (length-take-le k ys (omega (arith, p.behind, p.within, p.long))) ∙ ap length (sift_all h)
 
 -- what bytes give are codes
 pub all_sifted : (q b : ℕ) (bytes : List ℕ) → AllByRecursion (λ x. x < q) (sifted q b bytes)

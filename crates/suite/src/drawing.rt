@@ -7,6 +7,7 @@ ghost use Rattle.suite.specs.Sifted.{sifted};
 
 use crate::Suite;
 use field::Field;
+use field::drawing::drawing_len;
 use packing::encoding::Encoding;
 use refusal::{Buffer, Layer, Refusal};
 
@@ -17,6 +18,7 @@ fn sift(encoding: Encoding, part: &mut [u8]) -> usize
 {
     let mask = ((1u32 << encoding.bits) - 1) as u8;
     let mut found: usize = 0;
+    // By index: the front is written while the rest is read, which no iterator of one slice does.
     for i in 0..part.len() {
         let x = part[i] & mask;
         if u32::from(x) < encoding.order {
@@ -41,14 +43,13 @@ pub fn draw<F: Field, S: Suite>(
     ensures law { Draws F.Field.coding (S.Suite.meaning suite.now) label seed.now count (length buffer.old) result (take count buffer.new) }
 {
     let room = buffer.len();
-    if count > room || count / 8 + 64 > room - count {
+    if count > room || drawing_len(count) > room {
         return Err(Refusal::BufferLength {
             layer: Layer::Suite,
             buffer: Buffer::Map,
         });
     }
-    let size = count + count / 8 + 64;
-    let part = &mut buffer[0..size];
+    let part = &mut buffer[..drawing_len(count)];
     suite.stream(label, seed, part)?;
     if sift(F::encoding(), part) < count {
         return Err(Refusal::TooFewElements { label });

@@ -1,6 +1,6 @@
 use Rattle.std.proofs.Common.{◌≡◌, ℕ, ◌%◌, ◌^◌, get_or, ◌∙◌}
 use Rattle.packing.proofs.Faults.{masked}
-use Rattle.suite.proofs.Sifts.{sift_past, sift_keep, sift_all, sift_count}
+use Rattle.suite.proofs.Sifts.{sift_past, sift_keep}
 use Rattle.suite.proofs.drawing.sift.Goals as goal
 use Rattle.suite.proofs.drawing.sift.Goals.{then-from-encoding, else-from-encoding}
 
@@ -13,6 +13,3 @@ loop-i-preserved c =
       | then-from-encoding w ↦ rw (w.part-is, w.found-is, ← c.from.ensures) (sift_keep c.loop-i.invariant x low c.loop-i-test.true w.if-from-encoding.true)
       | else-from-encoding w ↦ rw (w.part-is, w.found-is) (sift_past c.loop-i.invariant x low c.loop-i-test.true w.if-from-encoding.false)
     ]
-
-pub returns : goal.returns
-returns c = record { count = sift_count c.loop-i.invariant c.loop-i-test.false; front = sift_all c.loop-i.invariant c.loop-i-test.false }
