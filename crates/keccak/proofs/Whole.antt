@@ -16,7 +16,7 @@ rows_below f small y k x h = subst (λ (n : ℕ). n < 2 ^ 64) (sym (rows_at f x 
 
 -- ---- each step keeps lanes of 64 bits
 
-parity_below : (a : Rows) → Lanes64 a → (x : ℕ) → x < 5 → parity_c a x < 2 ^ 64
+pub parity_below : (a : Rows) → Lanes64 a → (x : ℕ) → x < 5 → parity_c a x < 2 ^ 64
 parity_below a small x h =
     xor_lt 64 (bit_xor (bit_xor (bit_xor (lane a x 0) (lane a x 1)) (lane a x 2)) (lane a x 3)) (lane a x 4)
     (xor_lt 64 (bit_xor (bit_xor (lane a x 0) (lane a x 1)) (lane a x 2)) (lane a x 3)
@@ -55,7 +55,7 @@ iota_below a i h small =
 
 -- ---- rounds
 
-pi_bits : (a : Rows) → PiBits a (pi_of a)
+pub pi_bits : (a : Rows) → PiBits a (pi_of a)
 pi_bits a x y z h k l = ap (λ (n : ℕ). bit_of n z) (rows_at (λ x y. lane a ((x + 3 * y) % 5) x) x y h k)
 
 round_bits : (a : Rows) (i : ℕ) → i < 24 → Lanes64 a → RoundBits a i (round_of a i)
@@ -73,7 +73,7 @@ round_bits a i h small =
       rho = rho_bits (theta_of a) t;
       pi = pi_bits (rho_of (theta_of a));
       chi = chi_bits (pi_of (rho_of (theta_of a))) v;
-      iota = iota_bits (chi_of (pi_of (rho_of (theta_of a)))) i (constant_bit i h);
+      iota = iota_bits (chi_of (pi_of (rho_of (theta_of a)))) i (lane_rc i) (constant_bit i h);
     }
 
 round_below : (a : Rows) (i : ℕ) → i < 24 → Lanes64 a → Lanes64 (round_of a i)

@@ -1,7 +1,7 @@
 //! The step ι, and the constants of the rounds.
 ghost use Rattle.std.specs.Prelude.{◌≡◌, ℕ, ◌<◌};
 ghost use Rattle.keccak.specs.State.{bit_of};
-ghost use Rattle.keccak.specs.Constants.{lane_rc, bit_rc, iota_row_of, iota_of};
+ghost use Rattle.keccak.specs.Constants.{lane_rc, bit_rc, iota_of};
 ghost use Rattle.keccak.specs.Bits.{IotaBits};
 
 use crate::State;
@@ -41,17 +41,12 @@ fn constant(i: usize) -> u64
     ROUND_CONSTANTS[i]
 }
 
-fn iota_row(row: [u64; 5], constant: u64) -> [u64; 5]
-    ensures { result ≡ iota_row_of row constant }
-{
-    [row[0] ^ constant, row[1], row[2], row[3], row[4]]
-}
-
 /// ι: the first lane has the constant of round i added. The rounds are 0 to 23.
 pub fn iota(a: State, i: usize) -> State
     requires { i < 24 }
     ensures lanes { result ≡ iota_of a i }
     ensures bits { IotaBits a i result }
 {
-    [iota_row(a[0], constant(i)), a[1], a[2], a[3], a[4]]
+    let [[lane, x1, x2, x3, x4], y1, y2, y3, y4] = a;
+    [[lane ^ constant(i), x1, x2, x3, x4], y1, y2, y3, y4]
 }

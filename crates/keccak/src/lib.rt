@@ -10,9 +10,11 @@ ghost use Rattle.keccak.specs.Bits.{RoundBits, RoundsBits};
 ghost use Rattle.keccak.specs.Rounds.{round_of, keccak_f};
 
 pub use crate::constants::iota;
+pub use crate::state::{five, rows};
 pub use crate::steps::{chi, pi, rho, theta};
 
 mod constants;
+mod state;
 mod steps;
 
 /// Row y is element y, and its lane x stands at x.
@@ -28,13 +30,9 @@ fn round(a: State, i: usize) -> State
 }
 
 /// The whole permutation.
-pub fn permute(mut a: State) -> State
+pub fn permute(a: State) -> State
     ensures lanes { result ≡ keccak_f a }
     ensures bits { RoundsBits 24 a result }
 {
-    for i in 0..24 {
-        let next = round(a, i);
-        a = next;
-    }
-    a
+    (0..24).fold(a, round)
 }

@@ -1,24 +1,34 @@
--- The lanes are those of ρ, and so the bits are.
-use Rattle.std.proofs.Common.{◌≡◌, [], ◌∷◌, get_or, sym, subst, rules}
-use Rattle.keccak.specs.State.{Rows, Words}
-use Rattle.keccak.specs.Lanes.{rho_of}
+-- Each lane is that of ρ, and so the bits are.
+use Rattle.std.proofs.Common.{◌≡◌, ℕ, ◌-◌, ◌*◌, ◌/◌, ◌%◌, ◌^◌, ◌<◌, sym, refl, ap, ◌∙◌, subst, rules, arith}
+use lib.Bits.{bit_or}
+use Rattle.keccak.specs.State.{Rows, lane, rows, Lanes64}
+use Rattle.keccak.specs.Lanes.{rotated, offset, rho_of}
+use Rattle.keccak.specs.declared.steps.TheConstants.{OFFSETS}
 use Rattle.keccak.specs.Bits.{RhoBits}
-use Rattle.keccak.proofs.BitByBit.{each, rho_bits}
+use Rattle.keccak.proofs.BitByBit.{rows_at, rows_same, rho_bits}
 use Rattle.keccak.proofs.steps.rho.Goals as goal
 
-same : (c : goal.After-rotated_row-5) → (c.rotated_row.result ∷ c.rotated_row-2.result ∷ c.rotated_row-3.result ∷ c.rotated_row-4.result ∷ c.rotated_row-5.result ∷ []) ≡ rho_of c.args.a
-same c = search rules
+-- the code's table has the offsets modulo 64
+table : (x y : ℕ) → x < 5 → y < 5 → lane OFFSETS x y ≡ offset x y % 64
+table x y h k =
+    let e : OFFSETS ≡ rows (λ x y. offset x y % 64) = refl in
+    ap (λ (r : Rows). lane r x y) e ∙ rows_at (λ x y. offset x y % 64) x y h k
+
+turned : (v k n : ℕ) → k ≡ n % 64 → rotated v k ≡ rotated v n
+turned v k n e =
+    ap (λ (m : ℕ). bit_or ((v * 2 ^ m) % 2 ^ 64) (v / 2 ^ ((64 - m) % 64))) (let f : k % 64 ≡ n % 64 = omega arith in f)
+
+same : (c : goal.After-rows) → c.rows.result ≡ rho_of c.args.a
+same c =
+    c.rows.ensures.whole
+    ∙ rows_same (λ x y. lane c.rows.result x y) (λ x y. rotated (lane c.args.a x y) (offset x y))
+    (λ x y h k.
+    let e = c.rows.ensures.lanes x y h k in
+    let r : lane c.rows.result x y ≡ rotated (lane c.args.a x y) (lane OFFSETS x y) = search rules in
+    r ∙ turned (lane c.args.a x y) (lane OFFSETS x y) (offset x y) (table x y h k))
+
+small : (c : goal.After-rows) → Lanes64 c.args.a
+small c y k x h = let e = c.rows.ensures.lanes x y h k in search rules
 
 pub returns : goal.returns
-returns c =
-    record {
-      lanes = same c;
-      bits = subst (λ (r : Rows). RhoBits c.args.a r) (sym (same c))
-          (rho_bits c.args.a
-          (each (λ y. Words (get_or c.args.a y []))
-          c.rotated_row.ensures.small
-          c.rotated_row-2.ensures.small
-          c.rotated_row-3.ensures.small
-          c.rotated_row-4.ensures.small
-          c.rotated_row-5.ensures.small));
-    }
+returns c = record { lanes = same c; bits = subst (λ (r : Rows). RhoBits c.args.a r) (sym (same c)) (rho_bits c.args.a (small c)) }
