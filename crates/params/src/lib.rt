@@ -5,10 +5,10 @@ ghost use Rattle.std.specs.Prelude.{◌≡◌, ◌≤◌, true, IfOk};
 ghost use Rattle.refusal.specs.Outcome.{told};
 ghost use Rattle.params.specs.Sets.{set_of};
 ghost use Rattle.params.specs.Sizes.{coefficients_of, key_length, signature_length};
-ghost use Rattle.field.specs.Coding.{reads};
 
 mod good;
 
+pub use field::drawing::drawing_len;
 pub use good::GoodSet;
 use packing::encoding::Encoding;
 use refusal::Refusal;
@@ -26,14 +26,6 @@ pub const MQDSS_31_64: Set = Set {
     m: 64,
     r: 269,
 };
-
-// How many bytes of a stream drawing `count` elements reads.
-pub fn drawing_len(count: usize) -> usize
-    requires { count ≤ 137216 }
-    ensures { result ≡ reads count }
-{
-    count + count / 8 + 64
-}
 
 impl Set {
     // Refused unless n and m are 1 to 64 and r is 1 to 269.
