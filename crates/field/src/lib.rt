@@ -20,8 +20,7 @@ pub trait Field {
         ensures bits { result.bits ≡ coding.bits }
         ensures order { result.order ≡ coding.q };
 
-    // An element is passed as its code, with the bound at each call: vectors lie in lent bytes, so an element type would be wrapped at
-    // each read and unwrapped at each write.
+    // By codes: vectors lie in lent bytes, so an element type would be wrapped at each read and unwrapped at each write.
     fn add(a: u8, b: u8) -> u8
         requires a { a < coding.q }
         requires b { b < coding.q }

@@ -1,10 +1,11 @@
 -- Lanes of joined lists, and one byte more.
 use Rattle.std.specs.Prelude.{◌≡◌, ℕ, ◌+◌, ◌%◌, ◌<◌, cond, List, [], ◌∷◌, ◌++◌, map, length, take, ◌==◌, slice_index, slice_index_or, slice_set}
 use Rattle.std.proofs.Common.{⊎_elim, ap, sym, ◌∙◌, arith}
-use Rattle.std.proofs.lemmas.List.{take_more, length-take-le, get_or_past, get_or-set_same, get_or-set_other}
+use Rattle.std.proofs.lemmas.List.{take_more, length-take-le, get_or-set_same, get_or-set_other}
 use Rattle.std.specs.List.{range_with_len}
 use Rattle.std.proofs.lemmas.List.FromFn.{length-map-range_with_len, get_or-map-range_with_len, fill_by_all}
-use Rattle.std.proofs.lemmas.Bool.{cases_lt, cases_eq, eq-eqb, ne_eqb, cond-true, cond-false}
+use Rattle.std.proofs.lemmas.Bool.{cases_eq, eq-eqb, ne_eqb, cond-true, cond-false}
+use Rattle.suite.proofs.Bytes.{byte_anywhere}
 use Rattle.suite_bench.specs.Sums.{lane, bench_d}
 
 pub lane_append : (k i : ℕ) (xs ys : List ℕ) → lane k i (xs ++ ys) ≡ lane k i xs + lane (k + length xs) i ys
@@ -47,12 +48,9 @@ bench_d_length l x = length-map-range_with_len (λ i. (l + lane 0 i x) % 256) 0 
 
 pub bench_d_byte : (l : ℕ) (x : List ℕ) (k : ℕ) → slice_index (bench_d l x) k < 256
 unfolding bench_d
-bench_d_byte l x k =
+bench_d_byte l x =
     let f : ℕ → ℕ = λ i. (l + lane 0 i x) % 256 in
-    ⊎_elim
-    (λ (h : k < 32). omega (arith, get_or-map-range_with_len f 0 32 k k 0 h (omega arith)))
-    (λ h. omega (arith, get_or_past (map f (range_with_len 0 32)) k 0 (omega (arith, length-map-range_with_len f 0 32))))
-    (cases_lt k 32)
+    byte_anywhere (map f (range_with_len 0 32)) (λ k h. omega (arith, get_or-map-range_with_len f 0 32 k k 0 h (omega arith)))
 
 -- 32 bytes, each of them its lane's, are d
 pub bench_d_is : (l : ℕ) (x out : List ℕ) → length out ≡ 32 → ((i : ℕ) → i < 32 → slice_index out i ≡ (l + lane 0 i x) % 256) → out ≡ bench_d l x
