@@ -1,3 +1,4 @@
 pub mod Sifts
 pub mod Draws
 pub mod Bytes
+pub mod Limits
