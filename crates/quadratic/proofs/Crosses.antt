@@ -1,5 +1,5 @@
 -- The sum over the list of cross terms is the polar form.
-use Rattle.std.proofs.Common.{◌≡◌, ℕ, zero, suc, ◌+◌, ◌-◌, ◌*◌, ◌<◌, ◌≤◌, List, [], ◌∷◌, ◌++◌, length, drop, sym, refl, ap, ◌∙◌, subst, ap₂, arith, length-append, length-drop}
+use Rattle.std.proofs.Common.{◌≡◌, ℕ, zero, suc, ◌+◌, ◌-◌, ◌*◌, ◌<◌, ◌≤◌, List, [], ◌∷◌, ◌++◌, length, get_or, drop, sym, refl, ap, ◌∙◌, subst, ap₂, arith, length-append, length-drop}
 use mathlib.Core.Path.{fun_ext}
 use Rattle.std.proofs.lemmas.List.{get_or-drop}
 use Rattle.field.specs.Ring.{Ops, Laws}
@@ -30,11 +30,11 @@ module _ {A : Type 0} (o : Ops A) where
       length-append (crossed o x y (x ∷ xs) (y ∷ ys)) (crosses o xs ys)
       ∙ ap₂ ◌+◌ (length_crossed x y (x ∷ xs) (y ∷ ys) e) (length_crosses xs ys (omega arith)) ∙ sym (row_suc (length xs) (length xs))
 
-  at_crossed : (a b : A) (us vs : List A) (d : ℕ) → length vs ≡ length us → d < length us → at o (crossed o a b us vs) d ≡ a ⊗ at o vs d ⊕ b ⊗ at o us d
-  at_crossed a b [] vs d e h = absurd (omega arith)
-  at_crossed a b (u ∷ us) [] d e h = absurd (omega arith)
-  at_crossed a b (u ∷ us) (v ∷ vs) zero e h = refl
-  at_crossed a b (u ∷ us) (v ∷ vs) (suc d) e h = at_crossed a b us vs d (omega arith) (omega arith)
+  pub at_crossed : (a b z : A) (us vs : List A) (d : ℕ) → length vs ≡ length us → d < length us → get_or (crossed o a b us vs) d z ≡ a ⊗ get_or vs d z ⊕ b ⊗ get_or us d z
+  at_crossed a b z [] vs d e h = absurd (omega arith)
+  at_crossed a b z (u ∷ us) [] d e h = absurd (omega arith)
+  at_crossed a b z (u ∷ us) (v ∷ vs) zero e h = refl
+  at_crossed a b z (u ∷ us) (v ∷ vs) (suc d) e h = at_crossed a b z us vs d (omega arith) (omega arith)
 
 module _ {A : Type 0} {o : Ops A} (L : Laws o) where
   open o use {nil as 𝟘, add as ◌⊕◌, mul as ◌⊗◌}
@@ -51,7 +51,7 @@ module _ {A : Type 0} {o : Ops A} (L : Laws o) where
       let z : 0 + d ≡ d = omega arith in
       ap (at o (crosses o (x ∷ xs) (y ∷ ys))) z
       ∙ at_left L (crossed o x y (x ∷ xs) (y ∷ ys)) (crosses o xs ys) d (omega arith)
-      ∙ at_crossed o x y (x ∷ xs) (y ∷ ys) d e (omega arith)
+      ∙ at_crossed o x y 𝟘 (x ∷ xs) (y ∷ ys) d e (omega arith)
       ∙ ap (λ (k : ℕ). x ⊗ at o (y ∷ ys) k ⊕ y ⊗ at o (x ∷ xs) k) (sym z)
   at_crosses (x ∷ xs) (y ∷ ys) (suc i) d e h =
       let l = length_crossed o x y (x ∷ xs) (y ∷ ys) e in

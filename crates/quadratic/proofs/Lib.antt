@@ -1,6 +1,6 @@
 pub mod Rows
 pub mod Crosses
-pub mod Filling
+pub mod Triangles
 pub mod Fills
 pub mod Parts
 pub mod ByTerms

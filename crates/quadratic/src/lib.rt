@@ -9,6 +9,7 @@ mod map;
 mod terms;
 #[cfg(test)]
 mod tests;
+mod triangle;
 mod values;
 
 use field::Field;

@@ -4,7 +4,7 @@ ghost use Rattle.field.specs.Codes.{Codes, Vector};
 ghost use Rattle.algebra.specs.Quad.{F as map_of, G as polar_of};
 
 use crate::map::Map;
-use crate::terms::{add_up, fill_crosses, fill_monomials};
+use crate::terms::{add_up, fill_crosses, fill_monomials, pairs};
 use field::Field;
 use wiping::{Wiped, all_zero};
 
@@ -33,11 +33,13 @@ impl<F: Field> Map<'_, F> {
         requires places { length out.old ≡ self.now.m }
         ensures value { out.new ≡ map_of F.Field.coding.ops self.now.m self.now.n self.now.cs.now x.now }
         ensures codes { Codes F.Field.coding.q out.new }
-        ensures zeros { terms.new ≡ replicate MONOMIALS 0 }
+        ensures zeros { terms.new ≡ replicate (length terms.old) 0 }
     {
         let guard = Wiped { items: terms };
-        let size = fill_monomials::<F>(x, guard.items);
-        add_up::<F>(self.cs, size, &guard.items[0..size], out);
+        let size = pairs(self.n) + self.n;
+        let monomials = &mut guard.items[..size];
+        fill_monomials::<F>(x, monomials);
+        add_up::<F>(self.cs, size, monomials, out);
     }
 
     // G(x, y) = F(x + y) - F(x) - F(y), in one pass over the coefficients: the linear parts cancel.
@@ -62,10 +64,12 @@ impl<F: Field> Map<'_, F> {
         requires places { length out.old ≡ self.now.m }
         ensures value { out.new ≡ polar_of F.Field.coding.ops self.now.m self.now.n self.now.cs.now x.now y.now }
         ensures codes { Codes F.Field.coding.q out.new }
-        ensures zeros { terms.new ≡ replicate MONOMIALS 0 }
+        ensures zeros { terms.new ≡ replicate (length terms.old) 0 }
     {
         let guard = Wiped { items: terms };
-        let count = fill_crosses::<F>(x, y, guard.items);
-        add_up::<F>(self.cs, count + x.len(), &guard.items[0..count], out);
+        let count = pairs(self.n);
+        let crosses = &mut guard.items[..count];
+        fill_crosses::<F>(x, y, crosses);
+        add_up::<F>(self.cs, count + self.n, crosses, out);
     }
 }
