@@ -6,12 +6,5 @@ ghost use Rattle.report.specs.Compare.{differing as places};
 pub fn differing(a: &[u8], b: &[u8]) -> usize
     ensures { result ≡ places a.now b.now }
 {
-    let both = a.len().min(b.len());
-    let mut count = 0usize;
-    for i in 0..both {
-        if a[i] != b[i] {
-            count += 1;
-        }
-    }
-    count
+    a.iter().zip(b).filter(|(x, y)| x != y).count()
 }

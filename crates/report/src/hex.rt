@@ -1,4 +1,4 @@
-// Bytes in lower-case hexadecimal.
+// Bytes in lower-case hexadecimal, printed as they come: the crate `hex` writes them into a buffer of twice the length.
 use std::fmt;
 
 #[derive(Clone, Copy)]

@@ -35,42 +35,31 @@ fn fault_at(encoding: Encoding, set: Set, signature: &[u8], place: usize) -> Opt
     ensures { Spotted encoding.order encoding.bits set signature.now place result }
 {
     let vector = vector_at(encoding, set, place)?;
-    let at = vector.at;
-    let elements = vector.elements;
-    let end = at.checked_add(encoding.width(elements))?;
-    if end > signature.len() {
-        return None;
-    }
-    match inspect(encoding, elements, &signature[at..end]) {
-        Ok(()) => None,
-        Err(fault) => Some(Spot { vector, fault }),
-    }
+    let end = vector.at.checked_add(encoding.width(vector.elements))?;
+    let packed = signature.get(vector.at..end)?;
+    let fault = inspect(encoding, vector.elements, packed).err()?;
+    Some(Spot { vector, fault })
 }
 
 // Where a refusal of a signature over the field of 31 elements lies, if it is for a vector.
 pub fn spot_of(set: Set, signature: &[u8], refusal: Refusal) -> Option<Spot>
     ensures { Spotted coding31.q coding31.bits set signature.now (numbers_of refusal).2 result }
 {
-    let encoding = Gf31::encoding();
-    match refusal {
-        Refusal::Element { place } => fault_at(encoding, set, signature, place),
-        Refusal::Pad { place } => fault_at(encoding, set, signature, place),
-        _ => None,
-    }
+    let (Refusal::Element { place } | Refusal::Pad { place }) = refusal else {
+        return None;
+    };
+    fault_at(Gf31::encoding(), set, signature, place)
 }
 
 // Reads a signature over the field of 31 elements.
 pub fn scan(set: Set, signature: &[u8]) -> Report
     ensures { Reports set signature.now result }
 {
-    let encoding = Gf31::encoding();
-    let verdict = check_vectors(encoding, set, signature);
+    let verdict = check_vectors(Gf31::encoding(), set, signature);
     let bytes = signature.len();
-    let spot = match verdict {
-        Err(Refusal::Element { place }) => fault_at(encoding, set, signature, place),
-        Err(Refusal::Pad { place }) => fault_at(encoding, set, signature, place),
-        _ => None,
-    };
+    let spot = verdict
+        .err()
+        .and_then(|refusal| spot_of(set, signature, refusal));
     Report {
         set,
         bytes,
@@ -79,14 +68,19 @@ pub fn scan(set: Set, signature: &[u8]) -> Report
     }
 }
 
+// A function: a Display for `Kind` can stand in its own crate alone, and a wrapper would hold these same three arms.
+fn name_of(kind: Kind) -> &'static str {
+    match kind {
+        Kind::T1 => "t1",
+        Kind::E1 => "e1",
+        Kind::Response => "response",
+    }
+}
+
 impl fmt::Display for Spot {
     fn fmt<W: fmt::Write>(&self, f: &mut fmt::Formatter<W>) -> fmt::Result {
         let round = self.vector.round;
-        let name = match self.vector.kind {
-            Kind::T1 => "t1",
-            Kind::E1 => "e1",
-            Kind::Response => "response",
-        };
+        let name = name_of(self.vector.kind);
         match self.fault {
             Fault::Element(i) => write!(f, "round {round}, {name}, element {i}: 31 is no element"),
             Fault::Pad => write!(f, "round {round}, {name}: the pad is not zero"),
@@ -99,18 +93,16 @@ impl fmt::Display for Report {
         let bytes = self.bytes;
         let rounds = self.set.r;
         let vectors = rounds.saturating_mul(3);
-        match self.verdict {
-            Ok(()) => write!(
+        match (self.verdict, self.spot) {
+            (Ok(()), _) => write!(
                 f,
                 "read {bytes} bytes: {rounds} rounds, {vectors} vectors\nlawful"
             ),
-            Err(refusal) => match self.spot {
-                Some(spot) => write!(
-                    f,
-                    "read {bytes} bytes: {rounds} rounds, {vectors} vectors\n{refusal}\n{spot}"
-                ),
-                None => write!(f, "{refusal}"),
-            },
+            (Err(refusal), Some(spot)) => write!(
+                f,
+                "read {bytes} bytes: {rounds} rounds, {vectors} vectors\n{refusal}\n{spot}"
+            ),
+            (Err(refusal), None) => write!(f, "{refusal}"),
         }
     }
 }

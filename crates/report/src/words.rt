@@ -5,6 +5,7 @@ use std::fmt;
 #[derive(Clone, Copy)]
 pub struct Words(pub Refusal);
 
+// A function: a Display for `Buffer` can stand in its own crate alone, and a wrapper would hold these same five arms.
 fn buffer_name(buffer: Buffer) -> &'static str {
     match buffer {
         Buffer::Map => "map",

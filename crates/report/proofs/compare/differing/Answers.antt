@@ -1,19 +1,14 @@
--- One place more, and at the end none is left.
-use Rattle.std.proofs.Common.{arith}
-use Rattle.report.proofs.Places.{same_here, other_here, at_end}
+-- The pairs that the filter leaves are as many as the places.
+use Rattle.std.proofs.Common.{not, ◌==◌, ◌∙◌, rules, tests}
+use Rattle.std.proofs.lemmas.Iterator.{YieldsList-from_slice, YieldsList-from_zip}
+use Rattle.std.proofs.lemmas.Iterator.Consumers.{YieldsList-from_filter, count_from_yields_List}
+use Rattle.report.proofs.Places.{differing-zip}
 use Rattle.report.proofs.compare.differing.Goals as goal
-use Rattle.report.proofs.compare.differing.Goals.{then-a-i, else-a-i}
-
-pub loop-i-preserved : goal.loop-i-preserved
-loop-i-preserved c =
-    elim c.if-a-i.branch [
-      | then-a-i w ↦
-          let e = other_here c.args.a.now c.args.b.now c.loop-i.i (omega arith) (omega arith) w.if-a-i.true in
-          (omega (arith, c.loop-i.invariant.0, e, w.count-is), omega (arith, c.loop-i.invariant.1, w.count-is))
-      | else-a-i w ↦
-          let e = same_here c.args.a.now c.args.b.now c.loop-i.i (omega arith) (omega arith) w.if-a-i.false in
-          (omega (arith, c.loop-i.invariant.0, e, w.count-is), omega (arith, c.loop-i.invariant.1, w.count-is))
-    ]
 
 pub returns : goal.returns
-returns c = omega (arith, c.loop-i.invariant.0, at_end c.args.a.now c.args.b.now c.loop-i.i (λ h. omega (arith, h)))
+returns c =
+    count_from_yields_List c.filter.result _ c.count.ensures.ran
+    (YieldsList-from_filter _ (λ p. not (p.0 == p.1))
+    (YieldsList-from_zip (YieldsList-from_slice c.args.a.now cc) (YieldsList-from_slice c.args.b.now cc))
+    c.filter.ensures.closure (λ x r q k. search (rules, tests)))
+    ∙ differing-zip c.args.a.now c.args.b.now
