@@ -12,7 +12,7 @@ use params::Set;
 use refusal::Refusal;
 use std::fmt;
 use wire::check_vectors;
-use wire::locate::{Kind, Vector, vector_at};
+use wire::locate::{Vector, vector_at};
 
 // What was read, the verdict, and where a faulty vector lies.
 #[derive(Clone, Copy)]
@@ -68,19 +68,10 @@ pub fn scan(set: Set, signature: &[u8]) -> Report
     }
 }
 
-// A function: a Display for `Kind` can stand in its own crate alone, and a wrapper would hold these same three arms.
-fn name_of(kind: Kind) -> &'static str {
-    match kind {
-        Kind::T1 => "t1",
-        Kind::E1 => "e1",
-        Kind::Response => "response",
-    }
-}
-
 impl fmt::Display for Spot {
     fn fmt<W: fmt::Write>(&self, f: &mut fmt::Formatter<W>) -> fmt::Result {
         let round = self.vector.round;
-        let name = name_of(self.vector.kind);
+        let name = self.vector.kind;
         match self.fault {
             Fault::Element(i) => write!(f, "round {round}, {name}, element {i}: 31 is no element"),
             Fault::Pad => write!(f, "round {round}, {name}: the pad is not zero"),

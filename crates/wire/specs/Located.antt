@@ -1,5 +1,5 @@
 -- The vector that holds a byte of a signature.
-use Rattle.std.specs.Prelude.{◌≡◌, ℕ, ◌+◌, ◌<◌, ◌≤◌, true, Some, None, Option}
+use Rattle.std.specs.Prelude.{◌≡◌, ℕ, ◌+◌, ◌<◌, ◌≤◌, true, Some, None, Option, List, codes}
 use Rattle.packing.specs.Packed.{width}
 use Rattle.params.specs.declared.Set.{Set}
 use Rattle.params.specs.Sets.{good}
@@ -7,6 +7,12 @@ use Rattle.wire.specs.declared.locate.Kind.{Kind}
 use Rattle.wire.specs.declared.locate.Kind.TheVariants.{T1, E1, Response}
 use Rattle.wire.specs.declared.locate.Vector.{Vector}
 use Rattle.wire.specs.Layout.{t1_at, e1_at, response_at}
+
+-- a vector's name in the scheme
+abbrev pub name_of : Kind → List ℕ
+name_of T1 = codes "t1"
+name_of E1 = codes "e1"
+name_of Response = codes "response"
 
 -- where a vector of a round begins, and its elements
 abbrev pub start_of : ℕ → Set → Kind → ℕ → ℕ

@@ -1,12 +1,13 @@
 // Which vector of a signature holds a byte.
-ghost use Rattle.std.specs.Prelude.{◌≡◌, ◌≤◌, ◌<◌};
+ghost use Rattle.std.specs.Prelude.{◌≡◌, ◌≤◌, ◌<◌, Some};
 ghost use Rattle.wire.specs.Layout.{response_at};
-ghost use Rattle.wire.specs.Located.{Locates, start_of, elements_of};
+ghost use Rattle.wire.specs.Located.{Locates, start_of, elements_of, name_of};
 
 use crate::VECTORS;
 use crate::layout::Layout;
 use packing::encoding::Encoding;
 use params::Set;
+use std::fmt;
 
 // The three vectors of a round, by the letters of the scheme.
 #[derive(Clone, Copy, PartialEq, Eq, Debug)]
@@ -14,6 +15,18 @@ pub enum Kind {
     T1,
     E1,
     Response,
+}
+
+impl fmt::Display for Kind {
+    ghost output = { λ kind. Some (name_of kind) };
+
+    fn fmt<W: fmt::Write>(&self, f: &mut fmt::Formatter<W>) -> fmt::Result {
+        f.write_str(match self {
+            Kind::T1 => "t1",
+            Kind::E1 => "e1",
+            Kind::Response => "response",
+        })
+    }
 }
 
 // A vector of a signature: its round, which of the round's it is, its first byte and its elements.
