@@ -30,6 +30,14 @@ first_least q (y ∷ ys) (suc i) h e = go (ltb y q) (first_least q ys i (omega a
     go true f = omega arith
     go false f = omega arith
 
+-- the first i entries are codes
+pub first_after : (q : ℕ) (xs : List ℕ) (i : ℕ) → i ≤ length xs → ((k d : ℕ) → 0 ≤ k → k < i → get_or xs k d < q) → i ≤ first_not q xs
+first_after q xs i h p =
+    elim (cases_lt (first_not q xs) i) [
+      | inl lt ↦ absurd (omega (arith, p (first_not q xs) 0 (omega arith) lt, first_is q xs (omega arith)))
+      | inr ge ↦ ge
+    ]
+
 -- a loop that has passed i entries
 module _ (q : ℕ) (xs : List ℕ) {i : ℕ} (p : i ≤ first_not q xs) (h : i < length xs) where
   pub first_here : q ≤ get_or xs i 0 → first_not q xs ≡ i

@@ -2,6 +2,7 @@ pub mod Numerals
 pub mod Widths
 pub mod Firsts
 pub mod Packing
+pub mod Taking
 pub mod Reading
 pub mod Faults
 pub mod Bitwise

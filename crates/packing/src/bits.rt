@@ -4,23 +4,23 @@ ghost use Rattle.packing.specs.Packed.{packed, width, elements, fault, codes_of,
 
 use crate::encoding::Encoding;
 use crate::fault::Fault;
+use crate::reader::BitReader;
 use refusal::Refusal;
 
 // Whether every entry of `v` is a code; the first that is not is told at the byte where it would begin.
 pub fn check_codes(encoding: Encoding, v: &[u8]) -> Result<(), Refusal>
     ensures { result ≡ codes_of encoding.order encoding.bits v.now }
 {
-    for i in 0..v.len() {
-        if u32::from(v[i]) >= encoding.order {
-            return Err(Refusal::Element {
-                place: encoding.byte_of(i),
-            });
-        }
+    match v.iter().position(|x| u32::from(*x) >= encoding.order) {
+        Some(i) => Err(Refusal::Element {
+            place: encoding.byte_of(i),
+        }),
+        None => Ok(()),
     }
-    Ok(())
 }
 
-// Writes the packed form of codes.
+// Writes the packed form of codes. By index: a byte is full after an uneven number of entries, and taken one by one off
+// `out.iter_mut()` the bytes need twice the time, with nothing known of them in a proof afterwards.
 pub fn write(encoding: Encoding, v: &[u8], out: &mut [u8])
     requires codes { first_not encoding.order v.now ≡ length v.now }
     requires room { length out.old ≡ width encoding.bits (length v.now) }
@@ -44,28 +44,19 @@ pub fn write(encoding: Encoding, v: &[u8], out: &mut [u8])
     }
 }
 
-// What is wrong with a packed vector of `k` elements: the first that is no code, else a pad that is not zero.
+// What is wrong with a packed vector of `k` elements: the first that is no code, else a pad that is not zero. The pad is
+// what the reader has left, so no iterator of the elements alone would do.
 pub fn inspect(encoding: Encoding, k: usize, bytes: &[u8]) -> Result<(), Fault>
     requires { length bytes.now ≡ width encoding.bits k }
     ensures { result ≡ fault encoding.order encoding.bits k bytes.now }
 {
-    let mask = (1u32 << encoding.bits) - 1;
-    let mut held: u32 = 0;
-    let mut bits: u32 = 0;
-    let mut j: usize = 0;
+    let mut reader = BitReader::new(bytes);
     for i in 0..k {
-        if bits < encoding.bits {
-            held |= u32::from(bytes[j]) << bits;
-            bits += 8;
-            j += 1;
-        }
-        if held & mask >= encoding.order {
+        if u32::from(reader.take(encoding.bits)) >= encoding.order {
             return Err(Fault::Element(i));
         }
-        held >>= encoding.bits;
-        bits -= encoding.bits;
     }
-    if held != 0 {
+    if !reader.is_zero() {
         return Err(Fault::Pad);
     }
     Ok(())
@@ -76,18 +67,8 @@ pub fn read(encoding: Encoding, bytes: &[u8], out: &mut [u8])
     requires { length bytes.now ≡ width encoding.bits (length out.old) }
     ensures { out.new ≡ elements encoding.bits (length out.old) bytes.now }
 {
-    let mask = (1u32 << encoding.bits) - 1;
-    let mut held: u32 = 0;
-    let mut bits: u32 = 0;
-    let mut j: usize = 0;
-    for i in 0..out.len() {
-        if bits < encoding.bits {
-            held |= u32::from(bytes[j]) << bits;
-            bits += 8;
-            j += 1;
-        }
-        out[i] = (held & mask) as u8;
-        held >>= encoding.bits;
-        bits -= encoding.bits;
+    let mut reader = BitReader::new(bytes);
+    for x in out.iter_mut() {
+        *x = reader.take(encoding.bits);
     }
 }

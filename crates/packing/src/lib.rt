@@ -9,6 +9,7 @@ ghost use Rattle.packing.specs.Laws.{Packs, Unpacks, Judges, Wrong, KeyWrong};
 pub mod bits;
 pub mod encoding;
 pub mod fault;
+mod reader;
 
 use bits::{check_codes, inspect, read, write};
 use encoding::Encoding;
