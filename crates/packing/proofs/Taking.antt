@@ -1,16 +1,14 @@
 -- A reader of bits: one byte more, and the numbers that are taken off.
-use Rattle.std.proofs.Common.{◌≡◌, ℕ, ◌+◌, ◌-◌, ◌*◌, ◌/◌, ◌%◌, ◌^◌, ◌<◌, ◌≤◌, List, ◌∷◌, sym, ap, ◌∙◌, arith}
-use Rattle.std.proofs.Common.{Iter, Bor, Option, Some, None}
-use Rattle.std.specs.Option.{option_copied}
-use Rattle.std.specs.Slice.Iter.{iter_rest, iter_steps}
+use Rattle.std.proofs.Common.{◌≡◌, ℕ, ◌+◌, ◌-◌, ◌*◌, ◌/◌, ◌%◌, ◌^◌, ◌<◌, ◌≤◌, List, [], ◌∷◌, length, get_or, take, drop, sym, ap, ◌∙◌, arith}
 use native.Mathlib.Nat.{add-mul-div_left, add-mul-mod_self_left}
 use Rattle.std.proofs.lemmas.Nat.{pow-add, pow_pos, mul-le, shr_below}
+use Rattle.std.proofs.lemmas.List.{take_rest}
 use Rattle.packing.specs.Numeral.{amount}
 
--- the next byte, copied
-pub next_byte : (s t : Iter ℕ) (r : Option (Bor ℕ)) (x : ℕ) → iter_steps s r t → option_copied r ≡ Some x → iter_rest s ≡ x ∷ iter_rest t
-next_byte s t None x h e = cc
-next_byte s t (Some y) x h e = cc
+-- the next byte, and those behind it
+pub next_byte : (bytes : List ℕ) (x : ℕ) → 0 < length bytes → x ≡ get_or bytes 0 0 → bytes ≡ x ∷ take (length bytes - 1) (drop 1 bytes)
+next_byte [] x h e = elim h [ ]
+next_byte (y ∷ bytes) x h e = cc (take_rest (y ∷ bytes) 1)
 
 -- at least n bits of a number are held back, as `held`
 pub record Held (n number held bits : ℕ) (bytes : List ℕ) : Type 0 where

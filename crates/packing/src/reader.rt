@@ -1,16 +1,14 @@
 // Numbers of a few bits each, read off bytes from the lowest bit of the first.
 ghost use Rattle.std.specs.Prelude.{◌≡◌, ℕ, ◌+◌, ◌-◌, ◌*◌, ◌/◌, ◌%◌, ◌^◌, ◌<◌, ◌≤◌, ◌↔◌, IsTrue, length};
-ghost use Rattle.std.specs.Slice.Iter.{iter_rest};
 ghost use Rattle.packing.specs.Numeral.{amount};
 ghost use Rattle.packing.specs.Unread.{Unread};
 
 use std::marker::Model;
-use std::slice::Iter;
 
 // The bytes that are still to be read, and below them the `bits` bits of the number `held`.
 #[derive(Drop)]
 pub struct BitReader<'a> {
-    bytes: Iter<'a, u8>,
+    bytes: &'a [u8],
     held: u32,
     bits: u32,
 }
@@ -18,7 +16,7 @@ pub struct BitReader<'a> {
 impl<'a> Model for BitReader<'a> {
     ghost Value = { Unread };
 
-    ghost view = { λ r. record { number = r.held + 2 ^ r.bits * amount 256 (iter_rest r.bytes); left = r.bits + 8 * length (iter_rest r.bytes) } };
+    ghost view = { λ r. record { number = r.held + 2 ^ r.bits * amount 256 r.bytes.now; left = r.bits + 8 * length r.bytes.now } };
 
     ghost invariant = { λ r. (r.held < 2 ^ r.bits) × (r.bits < 8) };
 }
@@ -29,7 +27,7 @@ impl<'a> BitReader<'a> {
         ensures left { result.left ≡ 8 * length bytes.now }
     {
         BitReader {
-            bytes: bytes.iter(),
+            bytes,
             held: 0,
             bits: 0,
         }
@@ -46,9 +44,9 @@ impl<'a> BitReader<'a> {
         ensures left { self.new.left ≡ self.old.left - n }
     {
         if self.bits < n {
-            let byte = self.bytes.next().copied().unwrap();
-            self.held |= u32::from(byte) << self.bits;
+            self.held |= u32::from(self.bytes[0]) << self.bits;
             self.bits += 8;
+            self.bytes = &self.bytes[1..];
         }
         let value = self.held & ((1 << n) - 1);
         self.held >>= n;
