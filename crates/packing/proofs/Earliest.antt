@@ -1,10 +1,9 @@
 -- A refusal tells the earliest fault, and what has none is accepted.
-use Rattle.std.proofs.Common.{◌≡◌, ℕ, ◌+◌, ◌-◌, ◌*◌, ◌^◌, ◌<◌, ◌≤◌, Bool, true, false, cond, eqb, ltb, ◌⊎◌, List, length, get_or, Ok, Err, Result, refl, subst, inl, inr, arith}
+use Rattle.std.proofs.Common.{◌≡◌, ℕ, ◌+◌, ◌-◌, ◌*◌, ◌^◌, ◌<◌, ◌≤◌, Bool, true, false, cond, eqb, ltb, ◌⊎◌, List, length, get_or, Ok, Err, refl, inl, inr, arith}
 use Rattle.std.proofs.lemmas.Nat.{mul-le}
 use Rattle.std.proofs.lemmas.Bool.{eqb-true, eqb-false, ltb-true, ltb-false, cases_lt}
 use Rattle.packing.specs.Numeral.{amount}
-use Rattle.packing.specs.Packed.{elements, width, byte_of, pad, first_not, fault, refusing, signature_refusal_of, key_refusal_of, Within}
-use Rattle.packing.specs.declared.fault.Fault.{Fault}
+use Rattle.packing.specs.Packed.{elements, width, byte_of, pad, first_not, fault, refusing, signature_refusal_of, key_refusal_of}
 use Rattle.packing.specs.declared.fault.Fault.TheVariants.{Element, Pad}
 use Rattle.packing.specs.Laws.{Wrong, KeyWrong, Judges}
 use Rattle.packing.proofs.Numerals.{length_digits}
@@ -90,18 +89,3 @@ module _ (q b k : ℕ) (bytes : List ℕ) where
 
   pub judged_key : Judges (KeyWrong q b k bytes) (refusing (key_refusal_of k) (fault q b k bytes))
   judged_key = told_key (ltb at k) refl (eqb (pad b k bytes) 0) refl
-
-  -- a faulty element is one of the k
-  pub fault_within : (x : Fault) → fault q b k bytes ≡ Err x → Within k x
-  fault_within x = go (ltb at k) refl (eqb (pad b k bytes) 0)
-    where
-      go : (y : Bool) → ltb at k ≡ y → (z : Bool) → ◌≡◌ {A = Result (Unit {0}) Fault} (cond y (Err (Element at)) (cond z (Ok tt) (Err Pad))) (Err x) → Within k x
-      go true e z h =
-          let s : Element at ≡ x = cc in
-          subst (Within k) s (ltb-true at k e)
-      go false e true h =
-          let z : ◌≡◌ {A = ℕ} 0 1 = cc in
-          absurd (omega arith)
-      go false e false h =
-          let s : Pad ≡ x = cc in
-          subst (Within k) s tt

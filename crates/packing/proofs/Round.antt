@@ -104,6 +104,3 @@ unpacks q b k bytes some fits a long ok =
       fills = λ c. ap (λ (l : List ℕ). bit_at 8 l c) (sym same) ∙ fills b es some (wide q b es fits codes) c;
       redone = pack_ok q b es (length bytes) (long ∙ sym (ap (width b) len)) first ∙ ap Ok same;
     }
-
-pub unpack_err : (f : Fault → Refusal) (q b k : ℕ) (bytes : List ℕ) (x : Fault) → length bytes ≡ width b k → fault q b k bytes ≡ Err x → unpack_by f q b k bytes ≡ Err (f x)
-unpack_err f q b k bytes x long bad = rw (eq-eqb (length bytes) (width b k) long, bad)

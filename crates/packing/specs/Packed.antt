@@ -1,6 +1,6 @@
 -- Packed vectors of elements of b bits whose codes are the numbers below q.
 -- k elements are one number, the sum of v(i) * (2^b)^i; its bytes, lowest first, are the packed form.
-use Rattle.std.specs.Prelude.{ℕ, suc, ◌+◌, ◌-◌, ◌*◌, ◌/◌, ◌^◌, ◌<◌, cond, List, [], ◌∷◌, length, Ok, Err, Result, ◌==◌, nat_lt}
+use Rattle.std.specs.Prelude.{◌≡◌, ℕ, suc, ◌+◌, ◌-◌, ◌*◌, ◌/◌, ◌^◌, ◌<◌, cond, List, [], ◌∷◌, length, Ok, Err, Result, ◌==◌, nat_lt}
 use Rattle.refusal.specs.declared.Buffer.TheVariants.{Answer}
 use Rattle.refusal.specs.declared.Layer.TheVariants.{Packing}
 use Rattle.refusal.specs.declared.Refusal.{Refusal}
@@ -44,6 +44,10 @@ fault q b k bytes =
 abbrev pub Within : ℕ → Fault → Type 0
 Within k (NoCode i) = i < k
 Within k PadBits = Unit {0}
+
+-- R tells the faults among k elements as f does
+abbrev pub Tells : ℕ → (Fault → Refusal → Type 0) → (Fault → Refusal) → Type 0
+Tells k R f = (x : Fault) (r : Refusal) → Within k x → R x r → r ≡ f x
 
 -- in a signature, where the vector begins at byte `at`: by a byte of the signature
 abbrev pub signature_refusal_of : ℕ → ℕ → ℕ → Fault → Refusal

@@ -3,7 +3,7 @@
 
 ghost use Rattle.std.specs.Prelude.{◌≡◌, length, Ok, Err};
 ghost use Rattle.refusal.specs.Outcome.{told, written};
-ghost use Rattle.packing.specs.Packed.{width, pack_of, unpack_of, unpack_key_of};
+ghost use Rattle.packing.specs.Packed.{width, pack_of, unpack_by, unpack_of, unpack_key_of, Within, Tells};
 ghost use Rattle.packing.specs.Laws.{Packs, Unpacks, Judges, Wrong, KeyWrong};
 
 pub mod bits;
@@ -13,6 +13,7 @@ mod reader;
 
 use bits::{check_codes, inspect, read, write};
 use encoding::Encoding;
+use fault::Fault;
 use refusal::{Buffer, Layer, Refusal};
 
 const LENGTH: Refusal = Refusal::BufferLength {
@@ -35,6 +36,27 @@ pub fn pack(encoding: Encoding, v: &[u8], out: &mut [u8]) -> Result<(), Refusal>
     Ok(())
 }
 
+// Reads a packed vector of as many elements as `out` has places; `refuse` tells what is wrong with one.
+fn unpack_with<F: FnOnce(Fault) -> Refusal>(
+    encoding: Encoding,
+    bytes: &[u8],
+    out: &mut [u8],
+    refuse: F,
+) -> Result<(), Refusal>
+    requires { (x : _) → Within (length out.old) x → F.pre refuse x }
+    ensures answer { (f : _) → Tells (length out.old) (F.post refuse) f → result ≡ told (unpack_by f encoding.order encoding.bits (length out.old) bytes.now) }
+    ensures bytes { (f : _) → Tells (length out.old) (F.post refuse) f → out.new ≡ written (length out.old) (unpack_by f encoding.order encoding.bits (length out.old) bytes.now) }
+    ensures law { result ≡ Ok tt → Unpacks encoding.order encoding.bits bytes.now out.new }
+{
+    out.fill(0);
+    if bytes.len() != encoding.width(out.len()) {
+        return Err(LENGTH);
+    }
+    inspect(encoding, out.len(), bytes).map_err(refuse)?;
+    read(encoding, bytes, out);
+    Ok(())
+}
+
 // Reads a packed vector of as many elements as `out` has places, as it stands in a signature.
 pub fn unpack(encoding: Encoding, bytes: &[u8], out: &mut [u8]) -> Result<(), Refusal>
     ensures answer { result ≡ told (unpack_of encoding.order encoding.bits (length out.old) bytes.now) }
@@ -43,17 +65,14 @@ pub fn unpack(encoding: Encoding, bytes: &[u8], out: &mut [u8]) -> Result<(), Re
     ensures judged { length bytes.now ≡ width encoding.bits (length out.old) → Judges (Wrong encoding.order encoding.bits 0 (length out.old) bytes.now) result }
 {
     let k = out.len();
-    out.fill(0);
-    if bytes.len() != encoding.width(k) {
-        return Err(LENGTH);
-    }
-    match inspect(encoding, k, bytes) {
-        Ok(()) => {
-            read(encoding, bytes, out);
-            Ok(())
-        }
-        Err(fault) => Err(fault.in_signature(encoding, 0, k)),
-    }
+    unpack_with(
+        encoding,
+        bytes,
+        out,
+        |fault|
+            requires { Within k fault }
+        { fault.in_signature(encoding, 0, k) },
+    )
 }
 
 // Reads a packed vector of as many elements as `out` has places, as it stands in a public key.
@@ -64,17 +83,7 @@ pub fn unpack_key(encoding: Encoding, bytes: &[u8], out: &mut [u8]) -> Result<()
     ensures judged { length bytes.now ≡ width encoding.bits (length out.old) → Judges (KeyWrong encoding.order encoding.bits (length out.old) bytes.now) result }
 {
     let k = out.len();
-    out.fill(0);
-    if bytes.len() != encoding.width(k) {
-        return Err(LENGTH);
-    }
-    match inspect(encoding, k, bytes) {
-        Ok(()) => {
-            read(encoding, bytes, out);
-            Ok(())
-        }
-        Err(fault) => Err(fault.in_key(k)),
-    }
+    unpack_with(encoding, bytes, out, |fault| fault.in_key(k))
 }
 
 #[cfg(test)]
