@@ -69,9 +69,7 @@ pub fn unpack(encoding: Encoding, bytes: &[u8], out: &mut [u8]) -> Result<(), Re
         encoding,
         bytes,
         out,
-        |fault|
-            requires { Within k fault }
-        { fault.in_signature(encoding, 0, k) },
+        |fault| fault.in_signature(encoding, 0, k),
     )
 }
 
