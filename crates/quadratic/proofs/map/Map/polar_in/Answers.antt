@@ -1,18 +1,9 @@
-use Rattle.std.proofs.Common.{◌≡◌, ℕ, ◌+◌, ◌*◌, ◌≤◌, length, sym, ap, ◌∙◌, ap₂, arith, rules}
-use Rattle.std.proofs.lemmas.List.{length-take-le}
-use Rattle.algebra.specs.Quad.{row, size}
+use Rattle.std.proofs.Common.{◌≡◌, ◌+◌, ◌*◌, length, sym, ◌∙◌, ap₂, arith}
+use Rattle.algebra.specs.Quad.{size}
 use Rattle.algebra.proofs.Sizes.{size_rows}
 use Rattle.quadratic.specs.Sums.{sums}
 use Rattle.quadratic.proofs.ByTerms.{polar_by_sums}
-use Rattle.quadratic.proofs.Zeros.{zeros_at}
 use Rattle.quadratic.proofs.map.Map.polar_in.Goals as goal
-
-pub slice_bounds-crosses-end : goal.slice_bounds-crosses-end
-slice_bounds-crosses-end g c = let h : c.args.self.now.n ≤ 64 = c.args.self.now.short in sym (length-take-le _ c.args.terms.now (omega arith))
-
-pub fill_crosses-requires-clause-room : goal.fill_crosses-requires-clause-room
-fill_crosses-requires-clause-room g c =
-    length-take-le _ c.args.terms.now (omega arith) ∙ c.pairs-count.ensures.rows ∙ ap (λ (n : ℕ). row n n) (sym c.requires.left.long)
 
 pub add_up-requires-clause-len : goal.add_up-requires-clause-len
 add_up-requires-clause-len g c =
@@ -20,16 +11,11 @@ add_up-requires-clause-len g c =
     let l : length c.args.self.now.cs.now ≡ c.args.self.now.m * size c.args.self.now.n = c.args.self.now.len in
     l ∙ ap₂ ◌*◌ (sym c.requires.places) (sym s)
 
-pub returns : goal.returns
-returns g c =
+pub returns-clause-value : goal.returns-clause-value
+returns-clause-value g c =
     let s : c.pairs-count.result + c.args.self.now.n ≡ size c.args.self.now.n = omega (arith, size_rows c.args.self.now.n) in
     let l : length c.args.self.now.cs.now ≡ c.args.self.now.m * size c.args.self.now.n = c.args.self.now.len in
-    record {
-      value =
-          c.add_up.ensures.value
-          ∙ ap₂ (sums g.F.Field.coding.ops (length c.args.out.now) c.args.self.now.cs.now) s c.fill_crosses.ensures.value
-          ∙ polar_by_sums g.met.F.Field.coded.field (length c.args.out.now) c.args.self.now.m c.args.self.now.n c.args.self.now.cs.now c.args.x.now c.args.y.now c.requires.places c.requires.left.long c.requires.right.long l
-          c.args.self.now.coefficients c.requires.left.codes c.requires.right.codes;
-      codes = c.add_up.ensures.codes;
-      zeros = search (rules, zeros_at);
-    }
+    c.add_up.ensures.value
+    ∙ ap₂ (sums g.F.Field.coding.ops (length c.args.out.now) c.args.self.now.cs.now) s c.fill_crosses.ensures.value
+    ∙ polar_by_sums g.met.F.Field.coded.field (length c.args.out.now) c.args.self.now.m c.args.self.now.n c.args.self.now.cs.now c.args.x.now c.args.y.now c.requires.places c.requires.left.long c.requires.right.long l
+    c.args.self.now.coefficients c.requires.left.codes c.requires.right.codes
