@@ -19,9 +19,6 @@ module _ (b k : ℕ) (h : b ≤ 8) where
   pub byte_few : k / 8 * b + (k % 8 * b) / 8 ≤ k
   byte_few = omega (arith, high, low)
 
-  pub high_few : k / 8 * b ≤ k
-  high_few = omega (arith, high)
-
 pub width_eights : (b k : ℕ) → k / 8 * b + (k % 8 * b + 7) / 8 ≡ width b k
 width_eights b k = omega (arith, eights b k)
 
