@@ -1,4 +1,5 @@
--- Lemmas on tables, bits, steps and rounds; `Whole` has those that callers use.
+-- Lemmas on folds, tables, bits, steps and rounds; `Whole` has those that callers use.
+pub mod Count
 pub mod Table
 pub mod Bits
 pub mod BitByBit

@@ -14,6 +14,7 @@ pub fn five<F: Fn(usize) -> u64>(f: F) -> [u64; 5]
 }
 
 /// The state whose lane at x and y is `f(x, y)`.
+// Written out: of `from_fn` in `from_fn` there is no proof, since the inner closure does not know that y is below 5.
 pub fn rows<F: Fn(usize, usize) -> u64>(f: F) -> State
     requires { (x y : ℕ) → x < 5 → y < 5 → F.pre f x y }
     ensures whole { result ≡ state (λ x y. lane result x y) }

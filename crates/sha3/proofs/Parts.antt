@@ -1,7 +1,7 @@
 -- The bytes and lanes of an input in three parts l, h and t with a filling f, by their places.
 use Rattle.std.proofs.Common.{◌≡◌, ℕ, zero, suc, ◌+◌, ◌-◌, ◌*◌, ◌%◌, ◌<◌, ◌≤◌, List, [], ◌∷◌, ◌++◌, length, get_or, drop, replicate, sym, refl, ap, ◌∙◌, ⊎_elim, add-zero, arith, length-append}
-use lib.ListN.{length-replicate, get_or-replicate}
-use Rattle.std.proofs.lemmas.List.{get_or_at, get_or_past, get_or_append_left, get_or-append_right, append-nil, drop-drop, drop_at, drop-append-le}
+use lib.ListN.{length-replicate}
+use Rattle.std.proofs.lemmas.List.{get_or_append_left, get_or-append_right, append-nil, drop-drop, drop_at, drop-append-le}
 use Rattle.std.proofs.lemmas.Bool.{cases_lt, cond_below, cond_above}
 use Rattle.sha3.specs.Padding.{filling}
 use Rattle.keccak.specs.State.{rows}
@@ -15,29 +15,7 @@ length_filling s zero = refl
 length_filling s (suc zero) = refl
 length_filling s (suc (suc n)) = ap suc (length-append (replicate n 0) (128 ∷ []) ∙ ap (λ (k : ℕ). k + 1) (length-replicate n 0) ∙ omega arith)
 
-pub filling_past : (s q i : ℕ) → q ≤ i → get_or (filling s q) i 0 ≡ 0
-filling_past s q i h = get_or_past (filling s q) i 0 (omega (arith, length_filling s q))
-
-pub filling_last : (s q i : ℕ) → (q ≡ 1 → ⊥) → i + 1 ≡ q → get_or (filling s q) i 0 ≡ 128
-filling_last s zero i n e = omega arith
-filling_last s (suc zero) i n e = absurd (n refl)
-filling_last s (suc (suc q)) zero n e = omega arith
-filling_last s (suc (suc q)) (suc i) n e = get_or_at (replicate q 0) 128 [] 0 i (length-replicate q 0 ∙ omega arith)
-
-pub filling_mid : (s q i : ℕ) → i < q → (i ≡ 0 → ⊥) → (i + 1 ≡ q → ⊥) → get_or (filling s q) i 0 ≡ 0
-filling_mid s zero i h z e = omega arith
-filling_mid s (suc zero) i h z e = omega arith
-filling_mid s (suc (suc q)) zero h z e = absurd (z refl)
-filling_mid s (suc (suc q)) (suc i) h z e =
-    let k : i < q = omega arith in
-    let w : i < length (replicate {A = ℕ} q 0) = omega (arith, length-replicate {A = ℕ} q 0) in
-    get_or_append_left (replicate q 0) (128 ∷ []) 0 i w ∙ get_or-replicate q i 0 0 k
-
 -- ---- bytes
-
-pub in_label : (l h t f : List ℕ) (k : ℕ) → k < length l → get_or (joint l h t ++ f) k 0 ≡ get_or l k 0
-in_label l h t f k p =
-    get_or_append_left (l ++ (h ++ t)) f 0 k (omega (arith, length-append l (h ++ t))) ∙ get_or_append_left l (h ++ t) 0 k p
 
 -- past the label
 past_label : (l h t f : List ℕ) (k : ℕ) → length l ≤ k → k - length l < length (h ++ t) → get_or (joint l h t ++ f) k 0 ≡ get_or (h ++ t) (k - length l) 0
@@ -49,11 +27,6 @@ in_head l h t f k p q = past_label l h t f k p (omega (arith, length-append h t)
 
 pub in_tail : (l h t f : List ℕ) (k : ℕ) → length l ≤ k → length h ≤ k - length l → k - length l - length h < length t → get_or (joint l h t ++ f) k 0 ≡ get_or t (k - length l - length h) 0
 in_tail l h t f k p q r = past_label l h t f k p (omega (arith, length-append h t)) ∙ get_or-append_right h t (length h) (k - length l) 0 refl q
-
-pub in_filling : (l h t f : List ℕ) (k : ℕ) → length l ≤ k → length h ≤ k - length l → length t ≤ k - length l - length h → get_or (joint l h t ++ f) k 0 ≡ get_or f (k - length l - length h - length t) 0
-in_filling l h t f k p q r =
-    get_or-append_right (l ++ (h ++ t)) f (length l + (length h + length t)) k 0 (length-append l (h ++ t) ∙ ap (λ (n : ℕ). length l + n) (length-append h t)) (omega arith)
-    ∙ ap (λ (i : ℕ). get_or f i 0) (omega arith)
 
 -- ---- lanes
 
@@ -83,10 +56,6 @@ lane_in_tail l h t f k p q r =
 
 past : (xs ys : List ℕ) (k : ℕ) → drop (length xs + k) (xs ++ ys) ≡ drop k ys
 past xs ys k = sym (drop-drop k (length xs) (xs ++ ys)) ∙ ap (λ (l : List ℕ). drop k l) (drop_at xs ys (length xs) refl)
-
-pub rest_label : (l h t f : List ℕ) (at : ℕ) → at ≤ length l → joint (drop at l) h t ++ f ≡ drop at (joint l h t ++ f)
-rest_label l h t f at p =
-    sym (drop-append-le at (l ++ (h ++ t)) f (omega (arith, length-append l (h ++ t))) ∙ ap (λ (x : List ℕ). x ++ f) (drop-append-le at l (h ++ t) p))
 
 rest_parts : (l r f : List ℕ) (at : ℕ) → length l ≤ at → at ≤ length l + length r → drop at ((l ++ r) ++ f) ≡ drop (at - length l) r ++ f
 rest_parts l r f at p q =

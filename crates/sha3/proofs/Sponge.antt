@@ -2,9 +2,9 @@
 use Rattle.std.proofs.Common.{◌≡◌, ℕ, zero, suc, ◌+◌, ◌-◌, ◌*◌, ◌/◌, ◌%◌, ◌^◌, ◌<◌, ◌≤◌, List, [], ◌∷◌, ◌++◌, length, get_or, take, drop, sym, refl, ap, ◌∙◌, ⊎_elim, add-one, arith}
 use borrow.Rule.Slice.PartMut.{put_mid, post_of}
 use Rattle.std.proofs.lemmas.Nat.{div-mul-add, mod-mul-add}
-use Rattle.std.proofs.lemmas.List.{get_or_append_left, get_or-append_right, get_or-take, length-take-le}
+use Rattle.std.proofs.lemmas.List.{get_or_append_left, get_or-append_right, length-take-le}
 use Rattle.std.proofs.lemmas.Bool.{cases_lt}
-use Rattle.keccak.specs.State.{Rows, lane}
+use Rattle.keccak.specs.State.{Rows}
 use Rattle.keccak.specs.Rounds.{keccak_f}
 use Rattle.sha3.specs.Sponge.{zeros, block_added, absorbed, later, state_byte_of, squeezed_byte}
 
@@ -26,19 +26,13 @@ pub later_more : (s : Rows) (n : ℕ) → later (n + 1) s ≡ keccak_f (later n 
 unfolding later
 later_more s n = ap (λ (k : ℕ). later k s) (add-one n)
 
--- ---- a part of a list written over
-
-pub put_before : (a k : ℕ) (xs ys : List ℕ) (i : ℕ) → i < a → a ≤ length xs → get_or (put_mid a k xs ys) i 0 ≡ get_or xs i 0
-put_before a k xs ys i h r =
-    get_or_append_left (take a xs) (ys ++ post_of a k xs) 0 i (omega (arith, length-take-le a xs r)) ∙ get_or-take a xs i 0 h
+-- ---- a part of a list written over, and the bytes of a lane
 
 pub put_here : (a k : ℕ) (xs ys : List ℕ) (b : ℕ) → b < length ys → a ≤ length xs → get_or (put_mid a k xs ys) (a + b) 0 ≡ get_or ys b 0
 put_here a k xs ys b h r =
     get_or-append_right (take a xs) (ys ++ post_of a k xs) a (a + b) 0 (length-take-le a xs r) (omega arith)
     ∙ ap (λ (i : ℕ). get_or (ys ++ post_of a k xs) i 0) (let e : a + b - a ≡ b = omega arith in e)
     ∙ get_or_append_left ys (post_of a k xs) 0 b h
-
--- ---- the bytes of a lane
 
 pub lane_byte : (v b : ℕ) → b < 8 →
     get_or (v % 256 ∷ v / 256 % 256 ∷ v / 65536 % 256 ∷ v / 16777216 % 256 ∷ v / 4294967296 % 256 ∷ v / 1099511627776 % 256 ∷ v / 281474976710656 % 256 ∷ v / 72057594037927936 % 256 ∷ []) b 0
@@ -52,32 +46,6 @@ lane_byte v (suc (suc (suc (suc (suc zero))))) h = refl
 lane_byte v (suc (suc (suc (suc (suc (suc zero)))))) h = refl
 lane_byte v (suc (suc (suc (suc (suc (suc (suc zero))))))) h = refl
 lane_byte v (suc (suc (suc (suc (suc (suc (suc (suc b)))))))) h = absurd (omega arith)
-
--- byte b of lane j of a state
-pub state_lane : (s : Rows) (j b : ℕ) → b < 8 → lane s (j % 5) (j / 5) / 2 ^ (8 * b) % 256 ≡ state_byte_of s (8 * j + b)
-state_lane s j b h =
-    let x : j ≡ (8 * j + b) / 8 = omega arith in
-    let y : j / 5 ≡ (8 * j + b) / 40 = omega arith in
-    let z : b ≡ (8 * j + b) % 8 = omega arith in
-    ap (λ (n : ℕ). lane s (n % 5) (j / 5) / 2 ^ (8 * b) % 256) x
-    ∙ ap (λ (n : ℕ). lane s ((8 * j + b) / 8 % 5) n / 2 ^ (8 * b) % 256) y
-    ∙ ap (λ (n : ℕ). lane s ((8 * j + b) / 8 % 5) ((8 * j + b) / 40) / 2 ^ (8 * n) % 256) z
-
--- one lane more is written at a + 8j
-pub lanes_more : (s : Rows) (was out : List ℕ) (a j : ℕ) →
-    ((k : ℕ) → k < 8 * j → get_or was (a + k) 0 ≡ state_byte_of s k) →
-    ((k : ℕ) → k < a + 8 * j → get_or out k 0 ≡ get_or was k 0) →
-    ((b : ℕ) → b < 8 → get_or out (a + 8 * j + b) 0 ≡ lane s (j % 5) (j / 5) / 2 ^ (8 * b) % 256) →
-    (k : ℕ) → k < 8 * (j + 1) → get_or out (a + k) 0 ≡ state_byte_of s k
-lanes_more s was out a j done before bytes k h =
-    ⊎_elim
-    (λ l. before (a + k) (omega arith) ∙ done k l)
-    (λ r.
-    ap (λ (n : ℕ). get_or out n 0) (let e : a + k ≡ a + 8 * j + (k - 8 * j) = omega arith in e)
-    ∙ bytes (k - 8 * j) (omega arith)
-    ∙ state_lane s j (k - 8 * j) (omega arith)
-    ∙ ap (λ (n : ℕ). state_byte_of s n) (let e : 8 * j + (k - 8 * j) ≡ k = omega arith in e))
-    (cases_lt k (8 * j))
 
 -- ---- blocks
 

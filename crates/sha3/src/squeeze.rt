@@ -3,18 +3,21 @@ ghost use Rattle.std.specs.Prelude.{◌≡◌, ℕ, ◌+◌, ◌*◌, ◌/◌, �
 ghost use Rattle.std.specs.List.{range_with_len};
 ghost use Rattle.sha3.specs.Sponge.{state_byte_of, squeezed_byte};
 
+use crate::function::Function;
 use keccak::State;
 
-// Writes a lane, low byte first, to the eight places from `at`.
-fn put_lane(lane: u64, out: &mut [u8], at: usize)
-    requires { at + 8 ≤ length out.old }
+// Writes the first n bytes of a lane, low byte first, to the places from `at`.
+fn put_lane(lane: u64, n: usize, out: &mut [u8], at: usize)
+    requires bytes { n ≤ 8 }
+    requires room { at + n ≤ length out.old }
     ensures before { (k : ℕ) → k < at → slice_index out.new k ≡ slice_index out.old k }
-    ensures bytes { (b : ℕ) → b < 8 → slice_index out.new (at + b) ≡ lane / 2 ^ (8 * b) % 256 }
+    ensures bytes { (b : ℕ) → b < n → slice_index out.new (at + b) ≡ lane / 2 ^ (8 * b) % 256 }
 {
-    out[at..at + 8].copy_from_slice(&lane.to_le_bytes());
+    out[at..at + n].copy_from_slice(&lane.to_le_bytes()[..n]);
 }
 
 // Writes the first lanes of a state to the places from `at`.
+// By index: of the parts that `chunks_exact_mut` lends, a proof knows afterwards how long they are and not what is in them.
 fn put_lanes(s: State, lanes: usize, out: &mut [u8], at: usize)
     requires lanes { lanes ≤ 25 }
     requires room { at + 8 * lanes ≤ length out.old }
@@ -22,15 +25,8 @@ fn put_lanes(s: State, lanes: usize, out: &mut [u8], at: usize)
     ensures bytes { (k : ℕ) → k < 8 * lanes → slice_index out.new (at + k) ≡ state_byte_of s k }
 {
     for j in 0..lanes {
-        put_lane(s[j / 5][j % 5], out, at + 8 * j);
+        put_lane(s[j / 5][j % 5], 8, out, at + 8 * j);
     }
-}
-
-fn state_byte(s: State, k: usize) -> u8
-    requires { k < 200 }
-    ensures { result ≡ state_byte_of s k }
-{
-    ((s[k / 40][k / 8 % 5] >> (8 * (k % 8))) % 256) as u8
 }
 
 // Fills the places from `at`, of which there are at most 200, with the first bytes of a state.
@@ -43,22 +39,21 @@ fn put_rest(s: State, out: &mut [u8], at: usize)
     let left = out.len() - at;
     let lanes = left / 8;
     put_lanes(s, lanes, out, at);
-    for k in 8 * lanes..left {
-        out[at + k] = state_byte(s, k);
+    if left % 8 > 0 {
+        put_lane(s[lanes / 5][lanes % 5], left % 8, out, at + 8 * lanes);
     }
 }
 
-/// Fills `out` with what a state gives out in blocks of `rate` bytes.
-pub fn squeeze(start: State, rate: usize, out: &mut [u8])
-    requires lanes { rate % 8 ≡ 0 }
-    requires low { 0 < rate }
-    requires high { rate ≤ 200 }
-    ensures { out.new ≡ map (squeezed_byte rate start) (range_with_len 0 (length out.old)) }
+/// Fills `out` with what a state gives out in the blocks of a function.
+// By number: of the blocks that `chunks_mut` lends, a proof knows afterwards how long they are and not what is in them.
+pub fn squeeze(start: State, function: Function, out: &mut [u8])
+    ensures { out.new ≡ map (squeezed_byte function.rate start) (range_with_len 0 (length out.old)) }
 {
     let len = out.len();
     if len == 0 {
         return;
     }
+    let rate = function.rate;
     let mut s = start;
     let blocks = (len - 1) / rate;
     for i in 0..blocks {

@@ -1,15 +1,10 @@
--- A lane that lies in one part is that part's.
+-- A lane that lies in the tail is the tail's.
 use Rattle.std.proofs.Common.{sym, ◌∙◌, arith}
 use Rattle.sha3.specs.Padding.{filling}
-use Rattle.sha3.proofs.Parts.{lane_in_head, lane_in_tail}
+use Rattle.sha3.proofs.Parts.{lane_in_tail}
 use Rattle.sha3.proofs.input.input_lane.Goals as goal
 
-pub returns-then-i-input : goal.returns-then-i-input
-returns-then-i-input c =
-    c.slice_lane.ensures
-    ∙ sym (lane_in_head c.args.input.label.now c.args.input.head.now c.args.input.tail.now (filling c.args.input.suffix c.args.input.q) c.args.k (omega arith) (omega arith))
-
-pub returns-then-j-input : goal.returns-then-j-input
-returns-then-j-input c =
-    c.slice_lane-then-j-input.ensures
-    ∙ sym (lane_in_tail c.args.input.label.now c.args.input.head.now c.args.input.tail.now (filling c.args.input.suffix c.args.input.q) c.args.k (omega arith) (omega arith) (omega arith))
+pub returns-then-j-tail : goal.returns-then-j-tail
+returns-then-j-tail c =
+    c.lane-then-j-tail.ensures
+    ∙ sym (lane_in_tail c.args.input.message.label.now c.args.input.message.head.now c.args.input.message.tail.now (filling c.args.input.filling.suffix c.args.input.filling.q) c.args.k (omega arith) (omega arith) (omega arith))
