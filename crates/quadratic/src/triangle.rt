@@ -13,7 +13,8 @@ pub fn fill_row<T: Fn(usize, usize) -> u16>(i: usize, row: &mut [u16], term: &T)
     }
 }
 
-// `left` rows, from row i on, each one place shorter than the one before. By recursion: after a loop that moves on by the part behind each row, a proof does not know the whole.
+// `left` rows, from row i on, each one place shorter than the one before. By recursion: after a loop that moves on by the part behind
+// each row, a proof does not know the whole.
 pub fn fill_rows<T: Fn(usize, usize) -> u16>(i: usize, left: usize, terms: &mut [u16], term: &T)
     requires fits { i + left ≤ 64 }
     requires room { length terms.old ≡ row_of left left }
