@@ -3,7 +3,6 @@
 
 mod key_cases;
 mod suite_cases;
-mod tally;
 
 use crate::key_cases::{run_check, run_make};
 use crate::suite_cases::{run_draws, run_limits};
@@ -11,21 +10,13 @@ use std::io;
 use std::process::ExitCode;
 use tally::Tally;
 
-fn main(rt: HostRuntime) -> Result<ExitCode, io::Error> {
-    let mut tally = Tally {
-        passed: 0,
-        failed: 0,
-    };
-    run_limits(&rt, &mut tally)?;
-    run_draws(&rt, &mut tally)?;
-    run_make(&rt, &mut tally)?;
-    run_check(&rt, &mut tally)?;
-    let passed = tally.passed;
-    let failed = tally.failed;
-    println!(rt; "{passed} cases as they should be, {failed} not")?;
-    if failed == 0 {
-        Ok(ExitCode::SUCCESS)
-    } else {
-        Ok(ExitCode::FAILURE)
-    }
+type Cases<'a> = Tally<'a, HostRuntime>;
+
+fn main(rt: HostRuntime) -> io::Result<ExitCode> {
+    let mut tally = Tally::new(&rt);
+    run_limits(&mut tally)?;
+    run_draws(&mut tally)?;
+    run_make(&mut tally)?;
+    run_check(&mut tally)?;
+    tally.finish()
 }
