@@ -14,7 +14,6 @@ mod sign_refusals;
 mod sign_rooms;
 mod spoiling;
 mod stage;
-mod tally;
 mod vector_cases;
 mod verify_ask;
 mod verify_lengths;
@@ -36,39 +35,30 @@ use std::io;
 use std::process::ExitCode;
 use tally::Tally;
 
-fn main(rt: HostRuntime) -> Result<ExitCode, io::Error> {
-    let mut tally = Tally {
-        passed: 0,
-        failed: 0,
-        before: 0,
-    };
-    run_example(&rt, &mut tally)?;
-    tally.end_group(&rt, "the worked example")?;
-    run_pairs(&rt, &mut tally)?;
-    tally.end_group(&rt, "both signers side by side")?;
-    run_sample(&rt, &mut tally)?;
-    tally.end_group(&rt, "the sample")?;
-    run_sign_refusals(&rt, &mut tally)?;
-    run_sign_rooms(&rt, &mut tally)?;
-    tally.end_group(&rt, "refusals of signing")?;
-    run_verify_refusals(&rt, &mut tally)?;
-    run_verify_lengths(&rt, &mut tally)?;
-    tally.end_group(&rt, "refusals of verification")?;
-    run_short(&rt, &mut tally)?;
-    run_dry(&rt, &mut tally)?;
-    tally.end_group(&rt, "drawings that fall short")?;
-    run_vectors(&rt, &mut tally)?;
-    tally.end_group(&rt, "elements and pads of signatures")?;
-    run_flips(&rt, &mut tally)?;
-    tally.end_group(&rt, "changed bits and parts")?;
-    run_manners(&rt, &mut tally)?;
-    tally.end_group(&rt, "wrong signers")?;
-    let passed = tally.passed;
-    let failed = tally.failed;
-    println!(rt; "{passed} cases as they should be, {failed} not")?;
-    if failed == 0 {
-        Ok(ExitCode::SUCCESS)
-    } else {
-        Ok(ExitCode::FAILURE)
-    }
+type Cases<'a> = Tally<'a, HostRuntime>;
+
+fn main(rt: HostRuntime) -> io::Result<ExitCode> {
+    let mut tally = Tally::new(&rt);
+    run_example(&mut tally)?;
+    tally.end_group("the worked example")?;
+    run_pairs(&mut tally)?;
+    tally.end_group("both signers side by side")?;
+    run_sample(&mut tally)?;
+    tally.end_group("the sample")?;
+    run_sign_refusals(&mut tally)?;
+    run_sign_rooms(&mut tally)?;
+    tally.end_group("refusals of signing")?;
+    run_verify_refusals(&mut tally)?;
+    run_verify_lengths(&mut tally)?;
+    tally.end_group("refusals of verification")?;
+    run_short(&mut tally)?;
+    run_dry(&mut tally)?;
+    tally.end_group("drawings that fall short")?;
+    run_vectors(&mut tally)?;
+    tally.end_group("elements and pads of signatures")?;
+    run_flips(&mut tally)?;
+    tally.end_group("changed bits and parts")?;
+    run_manners(&mut tally)?;
+    tally.end_group("wrong signers")?;
+    tally.finish()
 }

@@ -1,7 +1,7 @@
 // The largest set, once: the sample slot map under the sample's secret key.
+use crate::Cases;
 use crate::pairs::compare;
-use crate::stage::{pattern, stage_of};
-use crate::tally::Tally;
+use crate::stage::{Stage, pattern};
 use params::MQDSS_31_64;
 use sha3::sha3_256;
 use std::io;
@@ -25,15 +25,13 @@ const SAMPLE: [u8; 32] = [
     0xf6, 0x18, 0xa7, 0x23, 0xd8, 0x31, 0x34, 0x7e, 0xde, 0xaf, 0xbd, 0xa5, 0x74, 0xa7, 0x31, 0xc6,
 ];
 
-pub fn run_sample(rt: &HostRuntime, tally: &mut Tally) -> io::Result<()> {
-    let secret = pattern(rt, 0, 1, 64)?;
-    let message = Vec::from_slice(rt.alloc(), SLOT_MAP.as_bytes())?;
-    let stage = stage_of(rt, Named::Keccak, MQDSS_31_64, secret, message)?;
+pub fn run_sample(tally: &mut Cases<'_>) -> io::Result<()> {
+    let heap = tally.rt.alloc();
+    let secret = pattern(heap, 0, 1, 64)?;
+    let message = Vec::from_slice(heap, SLOT_MAP.as_bytes())?;
+    let stage = Stage::new(heap, Named::Keccak, MQDSS_31_64, secret, message)?;
     let digest = sha3_256(stage.sig.as_slice());
-    tally.count(
-        rt,
-        "the sample: the second signer's signature",
-        digest == SAMPLE,
-    )?;
-    compare(rt, tally, &stage)
+    let name = "the sample: the second signer's signature";
+    tally.count(name, digest == SAMPLE)?;
+    compare(tally, &stage)
 }

@@ -1,12 +1,12 @@
 // Signing: the refusals of set and message, in their order.
+use crate::Cases;
 use crate::kit::Room;
 use crate::sign_ask::{Ask, BAD, GOOD, ask_bench};
-use crate::tally::{ACCEPTED, Tally};
 use params::{MQDSS_31_64, Set};
 use std::io;
 
-fn refuse_sets(rt: &HostRuntime, tally: &mut Tally) -> io::Result<()> {
-    let wide = Room {
+fn refuse_sets(tally: &mut Cases<'_>) -> io::Result<()> {
+    let room = Room {
         map: 160_000,
         list: 20_000,
         secret: 1024,
@@ -28,60 +28,37 @@ fn refuse_sets(rt: &HostRuntime, tally: &mut Tally) -> io::Result<()> {
         (64, 64, 270),
     ] {
         let set = Set { n, m, r };
-        ask_bench(
-            rt,
-            tally,
-            "signing: the set",
-            Ask { set, ..GOOD },
-            (1, 3, 0),
-        )?;
-        let room = wide;
-        ask_bench(
-            rt,
-            tally,
-            "signing: the set, in room",
-            Ask { set, room, ..GOOD },
-            (1, 3, 0),
-        )?;
-        ask_bench(
-            rt,
-            tally,
-            "signing: the set first",
-            Ask { set, ..BAD },
-            (1, 3, 0),
-        )?;
+        for (name, ask) in [
+            ("signing: the set", Ask { set, ..GOOD }),
+            ("signing: the set, in room", Ask { set, room, ..GOOD }),
+            ("signing: the set first", Ask { set, ..BAD }),
+        ] {
+            ask_bench(tally, name, ask, Err((1, 3, 0)))?;
+        }
     }
-    let set = MQDSS_31_64;
-    ask_bench(
-        rt,
-        tally,
-        "signing: the largest set",
-        Ask { set, ..GOOD },
-        (3, 3, 1),
-    )
+    let largest = Ask {
+        set: MQDSS_31_64,
+        ..GOOD
+    };
+    ask_bench(tally, "signing: the largest set", largest, Err((3, 3, 1)))
 }
 
-fn refuse_messages(rt: &HostRuntime, tally: &mut Tally) -> io::Result<()> {
+fn refuse_messages(tally: &mut Cases<'_>) -> io::Result<()> {
     let most = Ask {
         message: 65_536,
         ..GOOD
     };
-    ask_bench(rt, tally, "signing: the longest message", most, ACCEPTED)?;
+    ask_bench(tally, "signing: the longest message", most, Ok(()))?;
     let long = Ask {
         message: 65_537,
         ..GOOD
     };
-    ask_bench(rt, tally, "signing: a long message", long, (2, 3, 0))?;
-    ask_bench(
-        rt,
-        tally,
-        "signing: the message before the buffers",
-        BAD,
-        (2, 3, 0),
-    )
+    ask_bench(tally, "signing: a long message", long, Err((2, 3, 0)))?;
+    let name = "signing: the message before the buffers";
+    ask_bench(tally, name, BAD, Err((2, 3, 0)))
 }
 
-pub fn run_sign_refusals(rt: &HostRuntime, tally: &mut Tally) -> io::Result<()> {
-    refuse_sets(rt, tally)?;
-    refuse_messages(rt, tally)
+pub fn run_sign_refusals(tally: &mut Cases<'_>) -> io::Result<()> {
+    refuse_sets(tally)?;
+    refuse_messages(tally)
 }

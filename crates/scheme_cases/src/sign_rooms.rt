@@ -1,57 +1,31 @@
 // Signing: the refusals of buffers, key and drawings, at their places and in their order.
+use crate::Cases;
 use crate::kit::Room;
 use crate::sign_ask::{Ask, GOOD, ask_bench};
-use crate::tally::{ACCEPTED, Tally};
 use std::io;
 
-fn refuse_drawings(rt: &HostRuntime, tally: &mut Tally) -> io::Result<()> {
-    for key in [0usize, 63, 65, 128] {
-        ask_bench(
-            rt,
-            tally,
-            "signing: the key",
-            Ask { key, ..GOOD },
-            (7, 3, 0),
-        )?;
-        let bad = Ask {
-            key,
-            k: 0xf6,
-            s: 0xf7,
-            ..GOOD
-        };
-        ask_bench(
-            rt,
-            tally,
-            "signing: the key before the drawings",
-            bad,
-            (7, 3, 0),
-        )?;
-    }
-    // with label 9 a seed of F6 gives nothing but 31, with label 8 one of F7; 9 comes first
-    ask_bench(
-        rt,
-        tally,
-        "signing: label 9",
-        Ask { k: 0xf6, ..GOOD },
-        (17, 2, 9),
-    )?;
-    ask_bench(
-        rt,
-        tally,
-        "signing: label 8",
-        Ask { s: 0xf7, ..GOOD },
-        (17, 2, 8),
-    )?;
+fn refuse_drawings(tally: &mut Cases<'_>) -> io::Result<()> {
     let both = Ask {
         k: 0xf6,
         s: 0xf7,
         ..GOOD
     };
-    ask_bench(rt, tally, "signing: label 9 before 8", both, (17, 2, 9))
+    for key in [0usize, 63, 65, 128] {
+        let ask = Ask { key, ..GOOD };
+        ask_bench(tally, "signing: the key", ask, Err((7, 3, 0)))?;
+        let ask = Ask { key, ..both };
+        let name = "signing: the key before the drawings";
+        ask_bench(tally, name, ask, Err((7, 3, 0)))?;
+    }
+    // with label 9 a seed of F6 gives nothing but 31, with label 8 one of F7; 9 comes first
+    let ask = Ask { k: 0xf6, ..GOOD };
+    ask_bench(tally, "signing: label 9", ask, Err((17, 2, 9)))?;
+    let ask = Ask { s: 0xf7, ..GOOD };
+    ask_bench(tally, "signing: label 8", ask, Err((17, 2, 8)))?;
+    ask_bench(tally, "signing: label 9 before 8", both, Err((17, 2, 9)))
 }
 
-fn refuse_rooms(rt: &HostRuntime, tally: &mut Tally) -> io::Result<()> {
-    let late = Ask { key: 63, ..GOOD };
+fn refuse_rooms(tally: &mut Cases<'_>) -> io::Result<()> {
     for (map, list, secret, answer, place) in [
         (65usize, 64usize, 1024usize, 99usize, 1usize),
         (66, 63, 1024, 99, 2),
@@ -70,20 +44,11 @@ fn refuse_rooms(rt: &HostRuntime, tally: &mut Tally) -> io::Result<()> {
             secret,
             answer,
         };
-        ask_bench(
-            rt,
-            tally,
-            "signing: a buffer",
-            Ask { room, ..GOOD },
-            (3, 3, place),
-        )?;
-        ask_bench(
-            rt,
-            tally,
-            "signing: a buffer before the key",
-            Ask { room, ..late },
-            (3, 3, place),
-        )?;
+        let ask = Ask { room, ..GOOD };
+        ask_bench(tally, "signing: a buffer", ask, Err((3, 3, place)))?;
+        let late = Ask { key: 63, ..ask };
+        let name = "signing: a buffer before the key";
+        ask_bench(tally, name, late, Err((3, 3, place)))?;
     }
     let room = Room {
         map: 67,
@@ -91,16 +56,11 @@ fn refuse_rooms(rt: &HostRuntime, tally: &mut Tally) -> io::Result<()> {
         secret: 1025,
         answer: 99,
     };
-    ask_bench(
-        rt,
-        tally,
-        "signing: in more room",
-        Ask { room, ..GOOD },
-        ACCEPTED,
-    )
+    let ask = Ask { room, ..GOOD };
+    ask_bench(tally, "signing: in more room", ask, Ok(()))
 }
 
-pub fn run_sign_rooms(rt: &HostRuntime, tally: &mut Tally) -> io::Result<()> {
-    refuse_rooms(rt, tally)?;
-    refuse_drawings(rt, tally)
+pub fn run_sign_rooms(tally: &mut Cases<'_>) -> io::Result<()> {
+    refuse_rooms(tally)?;
+    refuse_drawings(tally)
 }

@@ -1,70 +1,66 @@
 // Verification asked of what stands on a stage, and stages that are spoiled.
-use crate::kit::{Room, judged, verify_in};
-use crate::stage::{Stage, pattern, set_up};
-use crate::tally::{Numbers, Tally};
+use crate::Cases;
+use crate::kit::Room;
+use crate::stage::{Stage, pattern};
 use params::Set;
+use std::alloc::{AllocError, Global};
 use std::io;
 use suites::Named;
+use tally::Told;
 
 // B(15) = 80 and 64·2 = 128.
 pub const ROOM: Room = Room {
     map: 80,
     list: 128,
-    secret: 0,
-    answer: 0,
-};
-
-pub const NO_ROOM: Room = Room {
-    map: 0,
-    list: 0,
-    secret: 0,
-    answer: 0,
+    ..Room::NONE
 };
 
 // An honest stage, to be spoiled.
-pub fn fresh(rt: &HostRuntime) -> io::Result<Stage> {
-    set_up(rt, Named::Keccak, Set { n: 2, m: 3, r: 2 }, 50, 20)
+pub fn fresh(heap: Global) -> io::Result<Stage> {
+    Stage::of_patterns(heap, Named::Keccak, Set { n: 2, m: 3, r: 2 }, 50, 20)
 }
 
 // Verifies what stands on the stage; the second signer, which is lent no buffer, agrees where none is refused.
 pub fn ask_in(
-    rt: &HostRuntime,
-    tally: &mut Tally,
+    tally: &mut Cases<'_>,
     name: &str,
     stage: &Stage,
     room: Room,
-    want: Numbers,
+    want: Told,
 ) -> io::Result<()> {
+    let heap = tally.rt.alloc();
     let key = stage.key.as_slice();
     let message = stage.message.as_slice();
     let sig = stage.sig.as_slice();
-    let told = verify_in(rt, stage.suite, stage.set, room, key, message, sig)?;
-    tally.count_at(rt, name, stage.set, told == want)?;
-    if want.0 != 3 {
-        let other = judged(rt, stage.suite, stage.set, key, message, sig)?;
-        tally.count_at(rt, "the second verdict", stage.set, other == want)?;
+    let told = stage.scheme.verify_in(heap, room, key, message, sig)?;
+    stage.count(tally, name, told == want)?;
+    if matches!(want, Err((3, ..))) {
+        return Ok(());
     }
-    Ok(())
+    let other = stage.scheme.judged(heap, key, message, sig)?;
+    stage.count(tally, "the second verdict", other == want)
 }
 
-// A byte more, and a byte less.
-pub fn longer(rt: &HostRuntime, bytes: &[u8]) -> io::Result<Vec<u8>> {
-    let mut out = Vec::from_slice(rt.alloc(), bytes)?;
-    out.push(0)?;
-    Ok(out)
+// A byte less.
+fn shorter(heap: Global, bytes: &[u8]) -> Result<Vec<u8>, AllocError> {
+    bytes
+        .iter()
+        .copied()
+        .take(bytes.len().saturating_sub(1))
+        .collect(heap)
 }
 
-pub fn shorter(rt: &HostRuntime, bytes: &[u8]) -> io::Result<Vec<u8>> {
-    let mut out = Vec::from_slice(rt.alloc(), bytes)?;
-    let _ = out.pop();
-    Ok(out)
+// A byte less, a byte more, and none.
+pub fn of_other_lengths(heap: Global, bytes: &[u8]) -> Result<[Vec<u8>; 3], AllocError> {
+    let longer = [bytes, &[0]].concat(heap)?;
+    Ok([shorter(heap, bytes)?, longer, Vec::new(heap)])
 }
 
 // A stage on which message, key and signature are wrong.
-pub fn spoiled(rt: &HostRuntime) -> io::Result<Stage> {
-    let mut stage = fresh(rt)?;
-    stage.message = pattern(rt, 0, 1, 65_537)?;
-    stage.key = shorter(rt, stage.key.as_slice())?;
-    stage.sig = shorter(rt, stage.sig.as_slice())?;
+pub fn spoiled(heap: Global) -> io::Result<Stage> {
+    let mut stage = fresh(heap)?;
+    stage.message = pattern(heap, 0, 1, 65_537)?;
+    stage.key = shorter(heap, stage.key.as_slice())?;
+    stage.sig = shorter(heap, stage.sig.as_slice())?;
     Ok(stage)
 }

@@ -1,81 +1,59 @@
 // Verification: the refusals of the key and of the signature's length, in their order.
+use crate::Cases;
 use crate::stage::pattern;
-use crate::tally::Tally;
-use crate::verify_ask::{ROOM, ask_in, fresh, longer, shorter, spoiled};
+use crate::verify_ask::{ROOM, ask_in, fresh, of_other_lengths, spoiled};
 use std::io;
 
 // Lengths of the key and of the signature, the key's first.
-fn refuse_lengths(rt: &HostRuntime, tally: &mut Tally) -> io::Result<()> {
-    let good = fresh(rt)?;
-    let mut stage = fresh(rt)?;
-    for bytes in [
-        shorter(rt, good.sig.as_slice())?,
-        longer(rt, good.sig.as_slice())?,
-        Vec::new(rt.alloc()),
-    ] {
+fn refuse_lengths(tally: &mut Cases<'_>) -> io::Result<()> {
+    let heap = tally.rt.alloc();
+    let mut stage = fresh(heap)?;
+    for bytes in of_other_lengths(heap, stage.sig.as_slice())? {
         stage.sig = bytes;
         ask_in(
-            rt,
             tally,
             "verification: the length",
             &stage,
             ROOM,
-            (9, 3, 0),
+            Err((9, 3, 0)),
         )?;
     }
-    for bytes in [
-        shorter(rt, good.key.as_slice())?,
-        longer(rt, good.key.as_slice())?,
-        Vec::new(rt.alloc()),
-    ] {
+    for bytes in of_other_lengths(heap, stage.key.as_slice())? {
         stage.key = bytes;
-        ask_in(rt, tally, "verification: the key", &stage, ROOM, (7, 3, 0))?;
+        ask_in(tally, "verification: the key", &stage, ROOM, Err((7, 3, 0)))?;
     }
     Ok(())
 }
 
 // The vector of the key, before the length of the signature; and the length before the vectors.
-fn refuse_elements(rt: &HostRuntime, tally: &mut Tally) -> io::Result<()> {
-    let mut good = fresh(rt)?;
-    let mut short = spoiled(rt)?;
-    short.message = pattern(rt, 0, 1, 9)?;
-    for (a, b, place) in [
-        (0x1fu8, 0x00u8, 0usize),
-        (0xff, 0xff, 0),
-        (0xe0, 0x03, 1),
-        (0x00, 0x7c, 2),
-        (0x00, 0xfc, 2),
-        (0x00, 0x80, 3),
+fn refuse_elements(tally: &mut Cases<'_>) -> io::Result<()> {
+    let heap = tally.rt.alloc();
+    let mut good = fresh(heap)?;
+    let mut short = spoiled(heap)?;
+    short.message = pattern(heap, 0, 1, 9)?;
+    let seed = pattern(heap, 9, 1, 32)?;
+    for (v, place) in [
+        ([0x1fu8, 0x00u8], 0usize),
+        ([0xff, 0xff], 0),
+        ([0xe0, 0x03], 1),
+        ([0x00, 0x7c], 2),
+        ([0x00, 0xfc], 2),
+        ([0x00, 0x80], 3),
     ] {
-        let mut key = pattern(rt, 9, 1, 32)?;
-        key.push(a)?;
-        key.push(b)?;
-        good.key = Vec::from_slice(rt.alloc(), key.as_slice())?;
-        short.key = key;
-        ask_in(
-            rt,
-            tally,
-            "verification: the key's vector",
-            &good,
-            ROOM,
-            (8, 1, place),
-        )?;
+        good.key = [seed.as_slice(), &v].concat(heap)?;
+        short.key = good.key.clone()?;
+        let want = Err((8, 1, place));
+        ask_in(tally, "verification: the key's vector", &good, ROOM, want)?;
         let name = "verification: the key's vector before the length";
-        ask_in(rt, tally, name, &short, ROOM, (8, 1, place))?;
+        ask_in(tally, name, &short, ROOM, want)?;
     }
-    let mut stage = fresh(rt)?;
-    stage.sig = pattern(rt, 0xff, 0, 141)?;
-    ask_in(
-        rt,
-        tally,
-        "verification: the length before the vectors",
-        &stage,
-        ROOM,
-        (9, 3, 0),
-    )
+    let mut stage = fresh(heap)?;
+    stage.sig = pattern(heap, 0xff, 0, 141)?;
+    let name = "verification: the length before the vectors";
+    ask_in(tally, name, &stage, ROOM, Err((9, 3, 0)))
 }
 
-pub fn run_verify_lengths(rt: &HostRuntime, tally: &mut Tally) -> io::Result<()> {
-    refuse_lengths(rt, tally)?;
-    refuse_elements(rt, tally)
+pub fn run_verify_lengths(tally: &mut Cases<'_>) -> io::Result<()> {
+    refuse_lengths(tally)?;
+    refuse_elements(tally)
 }

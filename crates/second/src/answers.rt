@@ -1,83 +1,72 @@
 // What the rounds carry: first responses, responses and the commitments of the other sides.
+use crate::Signer;
 use crate::manner::{Manner, Vector};
-use crate::numbers::at;
-use crate::round::{Desk, Round, first_response};
+use crate::round::{Desk, Round};
 use crate::trouble::Trouble;
 use std::alloc::Global;
+use suite::Suite;
 
-// The challenge that round i answers to.
-fn alpha_of(desk: &Desk, alphas: &[u8], i: usize) -> u8 {
-    if desk.manner == (Manner::AlphaOfNext { round: i }) {
-        at(alphas, i.wrapping_add(1))
-    } else {
-        at(alphas, i)
-    }
-}
-
-// t1 ‖ e1 of every round.
-pub fn first_responses(
+// What `part` gives of the round and the challenge that each place carries, one behind the other.
+fn carried<C: Copy, F: Fn(usize, &Round, C) -> Result<Vec<u8>, Trouble>>(
     heap: Global,
-    desk: &Desk,
+    manner: Manner,
     rounds: &[Round],
-    alphas: &[u8],
-) -> Result<Vec<u8>, Trouble> {
+    challenges: &[C],
+    part: F,
+) -> Result<Vec<u8>, Trouble>
+    requires { F.IsAlwaysCallable part }
+{
     let mut out = Vec::new(heap);
-    for i in 0..rounds.len() {
-        let j = desk.manner.source(i);
-        if let Some(round) = rounds.get(j) {
-            let alpha = alpha_of(desk, alphas, j);
-            let bytes = first_response(heap, desk, i, round, alpha)?;
-            out.extend_from_slice(bytes.as_slice())?;
-        }
+    let first = rounds.iter().zip(challenges).next();
+    for (i, own) in rounds.iter().zip(challenges).enumerate() {
+        let (round, challenge) = match first {
+            Some(first) if manner == Manner::CopiedRound && i == 1 => first,
+            _ => own,
+        };
+        let bytes = part(i, round, *challenge)?;
+        out.extend_from_slice(bytes.as_slice())?;
     }
     Ok(out)
 }
 
-// r0 where the bit is 0, and r1 where it is 1, of every round.
-pub fn responses(
-    heap: Global,
-    desk: &Desk,
-    rounds: &[Round],
-    bits: &[u8],
-) -> Result<Vec<u8>, Trouble> {
-    let mut out = Vec::new(heap);
-    for i in 0..rounds.len() {
-        let j = desk.manner.source(i);
-        if let Some(round) = rounds.get(j) {
-            let shown = if at(bits, j) % 2 == 0 {
-                &round.r0
-            } else {
-                &round.r1
-            };
-            let mut v = Vec::from_slice(heap, shown.as_slice())?;
-            let bytes = desk
-                .manner
-                .write(heap, i, Vector::Response, v.as_mut_slice())?;
-            out.extend_from_slice(bytes.as_slice())?;
-        }
+impl<S: Suite> Signer<'_, S> {
+    // t1 ‖ e1 of every round.
+    pub(crate) fn first_responses(
+        &self,
+        desk: &Desk,
+        rounds: &[Round],
+        alphas: &[u8],
+    ) -> Result<Vec<u8>, Trouble> {
+        carried(self.heap, desk.manner, rounds, alphas, |i, round, alpha| {
+            self.first_response(desk, i, round, alpha)
+        })
     }
-    Ok(out)
-}
 
-// The commitment of the other side, of every round.
-pub fn others(
-    heap: Global,
-    desk: &Desk,
-    rounds: &[Round],
-    bits: &[u8],
-) -> Result<Vec<u8>, Trouble> {
-    let mut out = Vec::new(heap);
-    for i in 0..rounds.len() {
-        let j = desk.manner.source(i);
-        if let Some(round) = rounds.get(j) {
+    // r0 where the bit is 0, and r1 where it is 1, of every round.
+    pub(crate) fn responses(
+        &self,
+        desk: &Desk,
+        rounds: &[Round],
+        bits: &[bool],
+    ) -> Result<Vec<u8>, Trouble> {
+        carried(self.heap, desk.manner, rounds, bits, |i, round, bit| {
+            let shown = if bit { &round.r1 } else { &round.r0 };
+            let v = shown.clone()?;
+            Ok(desk.manner.write(self.heap, i, Vector::Response, v)?)
+        })
+    }
+
+    // The commitment of the other side, of every round.
+    pub(crate) fn others(
+        &self,
+        desk: &Desk,
+        rounds: &[Round],
+        bits: &[bool],
+    ) -> Result<Vec<u8>, Trouble> {
+        carried(self.heap, desk.manner, rounds, bits, |i, round, bit| {
             let swapped = desk.manner == (Manner::SwappedCommitment { round: i });
-            let other = if (at(bits, j) % 2 == 0) != swapped {
-                &round.c1
-            } else {
-                &round.c0
-            };
-            out.extend_from_slice(other)?;
-        }
+            let other = if bit != swapped { &round.c0 } else { &round.c1 };
+            Ok(Vec::from_slice(self.heap, other)?)
+        })
     }
-    Ok(out)
 }

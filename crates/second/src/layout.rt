@@ -1,11 +1,9 @@
-// Where the parts of a signature stand, and the first fault in its packed vectors.
+// Where the parts of a signature stand, and the first fault of a packed vector.
 use crate::Params;
-use crate::numbers::cut;
-use crate::packed::{first_31, pad_is_set, unpack, width};
-use crate::trouble::Trouble;
-use std::alloc::Global;
+use crate::numbers::part;
+use crate::packed::{first_31, pad_is_set, width};
 
-// A packed vector: where it begins, and how many elements it has.
+// A packed vector: where it begins, and how many elements it has. Apart from the kit's places, which are worked out otherwise.
 #[derive(Clone, Copy)]
 pub struct Span {
     pub from: usize,
@@ -21,63 +19,63 @@ pub struct Places {
     pub other: usize,
 }
 
-// What is wrong with a packed vector.
+// What is wrong with a packed vector. Apart from the kit's refusals, which name the place too.
 #[derive(Clone, Copy)]
 pub enum Fault {
     Element { index: usize },
     Pad,
 }
 
-// The bytes of σ1.
-pub fn first_bytes(p: Params) -> usize {
-    p.r.wrapping_mul(width(p.n).wrapping_add(width(p.m)))
-}
+impl Params {
+    // The bytes of σ1.
+    pub(crate) fn first_bytes(self) -> usize {
+        self.r
+            .wrapping_mul(width(self.n).wrapping_add(width(self.m)))
+    }
 
-pub fn places_of(p: Params, i: usize) -> Places {
-    let n = width(p.n);
-    let t1 = i.wrapping_mul(n.wrapping_add(width(p.m))).wrapping_add(64);
-    let responses = first_bytes(p).wrapping_add(64);
-    let others = responses.wrapping_add(p.r.wrapping_mul(n));
-    Places {
-        t1: Span {
-            from: t1,
-            count: p.n,
-        },
-        e1: Span {
-            from: t1.wrapping_add(n),
-            count: p.m,
-        },
-        response: Span {
-            from: responses.wrapping_add(i.wrapping_mul(n)),
-            count: p.n,
-        },
-        other: others.wrapping_add(i.wrapping_mul(32)),
+    pub(crate) fn places(self, i: usize) -> Places {
+        let n = width(self.n);
+        let t1 = i
+            .wrapping_mul(n.wrapping_add(width(self.m)))
+            .wrapping_add(64);
+        let responses = self.first_bytes().wrapping_add(64);
+        let others = responses.wrapping_add(self.r.wrapping_mul(n));
+        Places {
+            t1: Span {
+                from: t1,
+                count: self.n,
+            },
+            e1: Span {
+                from: t1.wrapping_add(n),
+                count: self.m,
+            },
+            response: Span {
+                from: responses.wrapping_add(i.wrapping_mul(n)),
+                count: self.n,
+            },
+            other: others.wrapping_add(i.wrapping_mul(32)),
+        }
+    }
+
+    // The bytes of a signature: all up to where a round past the last would carry its commitment.
+    pub(crate) fn signature_bytes(self) -> usize {
+        self.places(self.r).other
     }
 }
 
-// The bytes of a signature: all up to where a round past the last would carry its commitment.
-pub fn signature_bytes(p: Params) -> usize {
-    places_of(p, p.r).other
+impl Span {
+    pub(crate) fn bytes(self, sig: &[u8]) -> &[u8] {
+        part(sig, self.from, width(self.count))
+    }
 }
 
-// The elements of a vector of the signature.
-pub fn read_span(heap: Global, sig: &[u8], span: Span) -> Result<Vec<u8>, Trouble> {
-    let bytes = cut(heap, sig, span.from, width(span.count))?;
-    unpack(heap, bytes.as_slice(), span.count)
-}
-
-pub fn fault_of(bytes: &[u8], count: usize) -> Option<Fault> {
+// The first fault of `count` packed elements.
+pub fn faultless(bytes: &[u8], count: usize) -> Result<(), Fault> {
     if let Some(index) = first_31(bytes, count) {
-        return Some(Fault::Element { index });
+        Err(Fault::Element { index })
+    } else if pad_is_set(bytes, count) {
+        Err(Fault::Pad)
+    } else {
+        Ok(())
     }
-    if pad_is_set(bytes, count) {
-        return Some(Fault::Pad);
-    }
-    None
-}
-
-// The first fault of a vector of the signature.
-pub fn fault_at(heap: Global, sig: &[u8], span: Span) -> Result<Option<Fault>, Trouble> {
-    let bytes = cut(heap, sig, span.from, width(span.count))?;
-    Ok(fault_of(bytes.as_slice(), span.count))
 }

@@ -3,23 +3,34 @@
 
 mod answers;
 mod draws;
-pub mod judge;
-pub mod key;
+mod judge;
+mod key;
 mod layout;
 pub mod manner;
 mod map;
 mod numbers;
 mod opening;
 mod packed;
+pub mod refused;
 mod round;
-pub mod shape;
-pub mod sign;
+mod shape;
+mod sign;
 pub mod trouble;
 
-// n variables, m equations and r rounds.
+use std::alloc::Global;
+
+// n variables, m equations and r rounds. Apart from the kit's `Set`: the second signer shares no type with the kit but its suites and their refusals.
 #[derive(Clone, Copy)]
 pub struct Params {
     pub n: usize,
     pub m: usize,
     pub r: usize,
+}
+
+// A suite and a set, and the heap on which everything is worked out.
+#[derive_where(Clone, Copy)]
+pub struct Signer<'a, S> {
+    pub heap: Global,
+    pub suite: &'a S,
+    pub p: Params,
 }

@@ -1,17 +1,17 @@
 // How the second signer signs: as it should, or wrongly in one way.
+use crate::numbers::at;
 use crate::packed::pack;
-use crate::trouble::Trouble;
-use std::alloc::Global;
+use std::alloc::{AllocError, Global};
 
-// A packed vector of a round.
-#[derive(Clone, Copy, PartialEq, Eq)]
+// A packed vector of a round, named apart from the kit's kinds of vectors.
+#[derive(Clone, Copy, PartialEq, Eq, Debug)]
 pub enum Vector {
     T1,
     E1,
     Response,
 }
 
-#[derive(Clone, Copy, PartialEq, Eq)]
+#[derive(Clone, Copy, PartialEq, Eq, Debug)]
 pub enum Manner {
     Honest,
     // the vector's first 0, or its first element where there is none, is written as 31
@@ -36,20 +36,9 @@ pub enum Manner {
 
 // Writes 31 in place of the first 0, or of the first element.
 fn put_31(v: &mut [u8]) {
-    for x in v.iter_mut() {
-        if *x == 0 {
-            *x = 31;
-            return;
-        }
-    }
-    if let Some(x) = v.first_mut() {
+    let first = v.iter().position(|&x| x == 0).unwrap_or(0);
+    if let Some(x) = v.get_mut(first) {
         *x = 31;
-    }
-}
-
-fn set_top_bit(bytes: &mut [u8]) {
-    if let Some(x) = bytes.last_mut() {
-        *x |= 0x80;
     }
 }
 
@@ -63,12 +52,13 @@ impl Manner {
         }
     }
 
-    // The round whose parts stand as round i.
-    pub fn source(self, i: usize) -> usize {
-        if self == Manner::CopiedRound && i == 1 {
-            0
-        } else {
-            i
+    // Turns the challenges into those that the rounds answer to.
+    pub fn turn_alphas(self, alphas: &mut [u8]) {
+        if let Manner::AlphaOfNext { round } = self {
+            let next = at(alphas, round.wrapping_add(1));
+            if let Some(alpha) = alphas.get_mut(round) {
+                *alpha = next;
+            }
         }
     }
 
@@ -78,14 +68,16 @@ impl Manner {
         heap: Global,
         round: usize,
         vector: Vector,
-        v: &mut [u8],
-    ) -> Result<Vec<u8>, Trouble> {
+        mut v: Vec<u8>,
+    ) -> Result<Vec<u8>, AllocError> {
         if self == (Manner::ThirtyOne { round, vector }) {
-            put_31(v);
+            put_31(v.as_mut_slice());
         }
-        let mut bytes = pack(heap, v)?;
+        let mut bytes = pack(heap, v.as_slice())?;
         if self == (Manner::PadBit { round, vector }) {
-            set_top_bit(bytes.as_mut_slice());
+            if let Some(x) = bytes.last_mut() {
+                *x |= 0x80;
+            }
         }
         Ok(bytes)
     }

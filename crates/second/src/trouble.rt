@@ -3,7 +3,7 @@ use refusal::Refusal;
 use std::alloc::{AllocError, AllocFailed};
 use std::io;
 
-#[derive(Clone, Copy, PartialEq, Eq)]
+#[derive(Clone, Copy, PartialEq, Eq, Debug)]
 pub enum Trouble {
     Memory,
     // a secret key that has not 64 bytes
@@ -11,7 +11,7 @@ pub enum Trouble {
     // a drawing that falls short
     Few { label: u8 },
     // a suite that refuses
-    Suite,
+    Suite(Refusal),
 }
 
 impl From<AllocError> for Trouble {
@@ -27,8 +27,8 @@ impl<T: Drop> From<AllocFailed<T>> for Trouble {
 }
 
 impl From<Refusal> for Trouble {
-    fn from(_e: Refusal) -> Trouble {
-        Trouble::Suite
+    fn from(e: Refusal) -> Trouble {
+        Trouble::Suite(e)
     }
 }
 
