@@ -1,9 +1,9 @@
 // The words of the command line.
 use crate::ask::{run_digest, run_stream};
-use crate::demo::run_demo;
-use crate::key_commands::{run_checkkey, run_key};
+use crate::failure::Failure;
+use crate::key_commands::run_checkkey;
 use crate::scan::run_scan;
-use crate::signatures::{run_sign, run_verify};
+use crate::session::Session;
 use params::Set;
 use std::io;
 use suites::Named;
@@ -19,140 +19,81 @@ pub const USAGE: &str = "usage: mqdss scan N M R FILE
        mqdss demo SUITE N M R SECRETFILE MESSAGEFILE DAMAGEDFILE
 SUITE is bench or keccak; N, M, R, LABEL (0 to 255) and COUNT are decimal; files are raw bytes";
 
+fn number<'a>(word: &'a str) -> Result<usize, Failure<'a>> {
+    word.parse().map_err(|_| Failure::Usage)
+}
+
 // The three numbers of a parameter set, in decimal.
-fn set_of(n: &str, m: &str, r: &str) -> Option<Set> {
-    match (n.parse::<usize>(), m.parse::<usize>(), r.parse::<usize>()) {
-        (Ok(n), Ok(m), Ok(r)) => Some(Set { n, m, r }),
-        _ => None,
-    }
+fn set_of<'a>(n: &'a str, m: &'a str, r: &'a str) -> Result<Set, Failure<'a>> {
+    Ok(Set {
+        n: number(n)?,
+        m: number(m)?,
+        r: number(r)?,
+    })
 }
 
-// A suite and a label; where one is wrong, a line says so.
-fn ask_of(rt: &HostRuntime, suite: &str, label: &str) -> io::Result<Option<(Named, u8)>> {
-    match (Named::of(suite), label.parse::<u8>()) {
-        (Some(suite), Ok(label)) => Ok(Some((suite, label))),
-        (None, _) => {
-            eprintln!(rt; "mqdss: no suite is named {suite}: bench or keccak")?;
-            Ok(None)
-        }
-        _ => {
-            eprintln!(rt; "mqdss: a label is 0 to 255, not {label}")?;
-            Ok(None)
-        }
-    }
+fn suite_of<'a>(name: &'a str) -> Result<Named, Failure<'a>> {
+    Named::of(name).ok_or(Failure::NoSuite(name))
 }
 
-fn ask_digest(rt: &HostRuntime, args: &[String]) -> io::Result<bool> {
-    if args.len() != 3 {
-        return usage(rt);
-    }
-    match ask_of(rt, args[0].as_str(), args[1].as_str())? {
-        Some((suite, label)) => run_digest(rt, suite, label, args[2].as_str()),
-        None => Ok(false),
-    }
+fn label_of<'a>(word: &'a str) -> Result<u8, Failure<'a>> {
+    word.parse().map_err(|_| Failure::NoLabel(word))
 }
 
-fn ask_stream(rt: &HostRuntime, args: &[String]) -> io::Result<bool> {
-    if args.len() != 4 {
-        return usage(rt);
-    }
-    let Some((suite, label)) = ask_of(rt, args[0].as_str(), args[1].as_str())? else {
-        return Ok(false);
-    };
-    let words = args[3].as_str();
-    match words.parse::<usize>() {
-        Ok(count) => run_stream(rt, suite, label, args[2].as_str(), count),
-        Err(_) => {
-            eprintln!(rt; "mqdss: a count is a decimal number, not {words}")?;
-            Ok(false)
-        }
-    }
+fn count_of<'a>(word: &'a str) -> Result<usize, Failure<'a>> {
+    word.parse().map_err(|_| Failure::NoCount(word))
 }
 
-// A suite and a set; where one is wrong, a line says so.
-fn scheme_of(rt: &HostRuntime, args: &[String]) -> io::Result<Option<(Named, Set)>> {
-    if args.len() != 4 {
-        return Ok(None);
-    }
-    let name = args[0].as_str();
-    let Some(suite) = Named::of(name) else {
-        eprintln!(rt; "mqdss: no suite is named {name}: bench or keccak")?;
-        return Ok(None);
-    };
-    match set_of(args[1].as_str(), args[2].as_str(), args[3].as_str()) {
-        Some(set) => Ok(Some((suite, set))),
-        None => {
-            usage(rt)?;
-            Ok(None)
-        }
-    }
+// A suite and a set, by their words.
+fn session_of<'r, 'a>(
+    rt: &'r HostRuntime,
+    suite: &'a str,
+    n: &'a str,
+    m: &'a str,
+    r: &'a str,
+) -> Result<Session<'r>, Failure<'a>> {
+    Ok(Session {
+        rt,
+        suite: suite_of(suite)?,
+        set: set_of(n, m, r)?,
+    })
 }
 
-fn ask_key(rt: &HostRuntime, args: &[String]) -> io::Result<bool> {
-    if args.len() != 6 {
-        return usage(rt);
+// Does what the words say; all of them are looked at before any file.
+fn obey<'a>(rt: &HostRuntime, words: &[&'a str]) -> Result<(), Failure<'a>> {
+    match *words {
+        ["scan", n, m, r, path] => run_scan(rt, set_of(n, m, r)?, path),
+        ["checkkey", n, m, r, path] => run_checkkey(rt, set_of(n, m, r)?, path),
+        ["digest", suite, label, path] => run_digest(rt, suite_of(suite)?, label_of(label)?, path),
+        ["stream", suite, label, path, count] => run_stream(
+            rt,
+            suite_of(suite)?,
+            label_of(label)?,
+            path,
+            count_of(count)?,
+        ),
+        ["key", suite, n, m, r, from, to] => session_of(rt, suite, n, m, r)?.key(from, to),
+        ["sign", suite, n, m, r, secret, text, to] => session_of(rt, suite, n, m, r)?.sign(
+            secret, text, to,
+        ),
+        ["verify", suite, n, m, r, key, text, path] => session_of(rt, suite, n, m, r)?.verify(
+            key, text, path,
+        ),
+        ["demo", suite, n, m, r, secret, text, path] => session_of(rt, suite, n, m, r)?.demo(
+            secret, text, path,
+        ),
+        _ => Err(Failure::Usage),
     }
-    match scheme_of(rt, &args[0..4])? {
-        Some((suite, set)) => run_key(rt, suite, set, args[4].as_str(), args[5].as_str()),
-        None => Ok(false),
-    }
-}
-
-// The commands that take a suite, a set, and three files.
-fn ask_signature(rt: &HostRuntime, word: &str, args: &[String]) -> io::Result<bool> {
-    if args.len() != 7 {
-        return usage(rt);
-    }
-    let Some((suite, set)) = scheme_of(rt, &args[0..4])? else {
-        return Ok(false);
-    };
-    let key = args[4].as_str();
-    let message = args[5].as_str();
-    let signature = args[6].as_str();
-    match word {
-        "sign" => run_sign(rt, suite, set, key, message, signature),
-        "demo" => run_demo(rt, suite, set, key, message, signature),
-        _ => run_verify(rt, suite, set, key, message, signature),
-    }
-}
-
-// The commands that take a set and a file.
-fn ask_set(rt: &HostRuntime, scan: bool, args: &[String]) -> io::Result<bool> {
-    if args.len() != 4 {
-        return usage(rt);
-    }
-    match set_of(args[0].as_str(), args[1].as_str(), args[2].as_str()) {
-        Some(set) => {
-            if scan {
-                run_scan(rt, set, args[3].as_str())
-            } else {
-                run_checkkey(rt, set, args[3].as_str())
-            }
-        }
-        None => usage(rt),
-    }
-}
-
-fn usage(rt: &HostRuntime) -> io::Result<bool> {
-    eprintln!(rt; "{USAGE}")?;
-    Ok(false)
 }
 
 // Runs one command; true where it says yes.
 pub fn run(rt: &HostRuntime, args: &[String]) -> io::Result<bool> {
-    if args.len() == 0 {
-        return usage(rt);
-    }
-    let rest = &args[1..];
-    match args[0].as_str() {
-        "scan" => ask_set(rt, true, rest),
-        "checkkey" => ask_set(rt, false, rest),
-        "digest" => ask_digest(rt, rest),
-        "stream" => ask_stream(rt, rest),
-        "key" => ask_key(rt, rest),
-        "sign" => ask_signature(rt, "sign", rest),
-        "verify" => ask_signature(rt, "verify", rest),
-        "demo" => ask_signature(rt, "demo", rest),
-        _ => usage(rt),
+    let words: Vec<&str> = args.iter().map(|word| word.as_str()).collect(rt.alloc())?;
+    match obey(rt, &words) {
+        Ok(()) => Ok(true),
+        Err(failure) => {
+            failure.say(rt)?;
+            Ok(false)
+        }
     }
 }

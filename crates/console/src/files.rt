@@ -1,6 +1,5 @@
-// Reading and writing the files that a command names, and saying what is refused.
-use refusal::Refusal;
-use report::words::Words;
+// Reading and writing the files that a command names.
+use crate::failure::Failure;
 use std::fs::File;
 use std::io::{Read, Write};
 use std::rt::Files;
@@ -15,30 +14,25 @@ pub fn read_up_to<R: Files + Alloc>(rt: &R, path: &str, most: usize) -> io::Resu
     Ok(bytes)
 }
 
+// The same, where a failure is the file's.
+pub(crate) fn read<'a>(
+    rt: &HostRuntime,
+    path: &'a str,
+    most: usize,
+) -> Result<Vec<u8>, Failure<'a>> {
+    read_up_to(rt, path, most).map_err(|error| Failure::File { path, error })
+}
+
 // Writes a new file, and leaves none that is half written.
-pub fn write_whole(rt: &HostRuntime, path: &str, bytes: &[u8]) -> io::Result<bool> {
-    let mut file = match File::create(rt, path) {
-        Ok(file) => file,
-        Err(e) => return unreadable(rt, path, e),
-    };
-    match file.write_all(bytes) {
-        Ok(()) => Ok(true),
-        Err(e) => {
-            let _ = fs::remove_file(rt, path);
-            unreadable(rt, path, e)
-        }
+pub(crate) fn write_whole<'a>(
+    rt: &HostRuntime,
+    path: &'a str,
+    bytes: &[u8],
+) -> Result<(), Failure<'a>> {
+    let mut file = File::create(rt, path).map_err(|error| Failure::File { path, error })?;
+    if let Err(error) = file.write_all(bytes) {
+        let _ = fs::remove_file(rt, path);
+        return Err(Failure::File { path, error });
     }
-}
-
-// Says that a file cannot be read or written.
-pub fn unreadable(rt: &HostRuntime, path: &str, e: io::Error) -> io::Result<bool> {
-    eprintln!(rt; "mqdss: {path}: {e}")?;
-    Ok(false)
-}
-
-// The line of a refusal, and then the refusal in words.
-pub fn refused(rt: &HostRuntime, refusal: Refusal) -> io::Result<bool> {
-    let words = Words(refusal);
-    println!(rt; "{refusal}\n{words}")?;
-    Ok(false)
+    Ok(())
 }

@@ -1,85 +1,62 @@
 // The commands `key` and `checkkey`: making a public key, and looking at one.
-use crate::files::{read_up_to, refused, unreadable, write_whole};
+use crate::failure::Failure;
+use crate::files::{read, write_whole};
+use crate::session::{Session, wipe_after};
 use field::Field;
 use gf31::Gf31;
 use keys::{SECRET, check_key, make_key};
 use params::{Set, drawing_len};
-use refusal::Refusal;
 use report::hex::Hex;
 use std::io;
-use suite::Suite;
 use suites::Named;
 
-// The public key of a secret key, in buffers of the set's lengths.
-pub fn make(
+impl Session<'_> {
+    // The public key of a secret key, in buffers of the set's lengths.
+    pub fn make<'p>(&self, secret_key: &[u8]) -> Result<Vec<u8>, Failure<'p>> {
+        let set = self.set;
+        set.check()?;
+        let alloc = self.rt.alloc();
+        let mut map = vec![in alloc; 0u8; drawing_len(set.coefficients())]?;
+        let mut secret = vec![in alloc; 0u8; SECRET]?;
+        let mut key = vec![in alloc; 0u8; set.key_len(Gf31::encoding())]?;
+        make_key::<Gf31, Named>(
+            self.set,
+            &self.suite,
+            map.as_mut_slice(),
+            secret.as_mut_slice(),
+            secret_key,
+            key.as_mut_slice(),
+        )?;
+        Ok(key)
+    }
+
+    // Says what was made.
+    pub fn say_made(&self, key: &[u8]) -> io::Result<()> {
+        let Set { n, m, r: _ } = self.set;
+        println!(self.rt;
+            "made a public key of {n} variables and {m} equations: {} bytes\n{}",
+            key.len(),
+            Hex(key)
+        )
+    }
+
+    pub fn key<'p>(&self, from: &'p str, to: &'p str) -> Result<(), Failure<'p>> {
+        let mut secret_key = read(self.rt, from, 64)?;
+        let key = wipe_after(secret_key.as_mut_slice(), |bytes| self.make(bytes))?;
+        write_whole(self.rt, to, key.as_slice())?;
+        self.say_made(key.as_slice())?;
+        Ok(())
+    }
+}
+
+pub(crate) fn run_checkkey<'a>(
     rt: &HostRuntime,
-    suite: Named,
     set: Set,
-    secret_key: &[u8],
-) -> io::Result<Result<Vec<u8>, Refusal>> {
-    if let Err(refusal) = set.check() {
-        return Ok(Err(refusal));
-    }
-    let room = drawing_len(set.coefficients());
-    let wanted = set.key_len(Gf31::encoding());
-    let mut map = vec![in rt.alloc(); 0u8; room]?;
-    let mut secret = vec![in rt.alloc(); 0u8; SECRET]?;
-    let mut key = vec![in rt.alloc(); 0u8; wanted]?;
-    let made = make_key::<Gf31, Named>(
-        set,
-        &suite,
-        map.as_mut_slice(),
-        secret.as_mut_slice(),
-        secret_key,
-        key.as_mut_slice(),
-    );
-    match made {
-        Ok(()) => Ok(Ok(key)),
-        Err(refusal) => Ok(Err(refusal)),
-    }
-}
-
-// Says what was made.
-pub fn say_made(rt: &HostRuntime, set: Set, key: &[u8]) -> io::Result<bool> {
-    let n = set.n;
-    let m = set.m;
-    let bytes = key.len();
-    let hex = Hex(key);
-    println!(rt; "made a public key of {n} variables and {m} equations: {bytes} bytes\n{hex}")?;
-    Ok(true)
-}
-
-pub fn run_key(rt: &HostRuntime, suite: Named, set: Set, from: &str, to: &str) -> io::Result<bool> {
-    let mut secret_key = match read_up_to(rt, from, 64) {
-        Ok(bytes) => bytes,
-        Err(e) => return unreadable(rt, from, e),
-    };
-    let made = make(rt, suite, set, secret_key.as_slice());
-    secret_key.as_mut_slice().fill(0);
-    match made? {
-        Ok(key) => {
-            if !write_whole(rt, to, key.as_slice())? {
-                return Ok(false);
-            }
-            say_made(rt, set, key.as_slice())
-        }
-        Err(refusal) => refused(rt, refusal),
-    }
-}
-
-pub fn run_checkkey(rt: &HostRuntime, set: Set, path: &str) -> io::Result<bool> {
-    if let Err(refusal) = set.check() {
-        return refused(rt, refusal);
-    }
-    let bytes = match read_up_to(rt, path, set.key_len(Gf31::encoding())) {
-        Ok(bytes) => bytes,
-        Err(e) => return unreadable(rt, path, e),
-    };
-    match check_key::<Gf31>(set, bytes.as_slice()) {
-        Ok(()) => {
-            println!(rt; "lawful")?;
-            Ok(true)
-        }
-        Err(refusal) => refused(rt, refusal),
-    }
+    path: &'a str,
+) -> Result<(), Failure<'a>> {
+    set.check()?;
+    let bytes = read(rt, path, set.key_len(Gf31::encoding()))?;
+    check_key::<Gf31>(set, bytes.as_slice())?;
+    println!(rt; "lawful")?;
+    Ok(())
 }

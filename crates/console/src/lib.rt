@@ -4,7 +4,9 @@
 pub mod ask;
 pub mod command;
 pub mod demo;
+pub mod failure;
 pub mod files;
 pub mod key_commands;
 pub mod scan;
+pub mod session;
 pub mod signatures;
