@@ -33,7 +33,7 @@ fn set_of<'a>(n: &'a str, m: &'a str, r: &'a str) -> Result<Set, Failure<'a>> {
 }
 
 fn suite_of<'a>(name: &'a str) -> Result<Named, Failure<'a>> {
-    Named::of(name).ok_or(Failure::NoSuite(name))
+    name.parse().map_err(|_| Failure::NoSuite(name))
 }
 
 fn label_of<'a>(word: &'a str) -> Result<u8, Failure<'a>> {

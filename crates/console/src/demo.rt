@@ -53,10 +53,9 @@ impl Session<'_> {
         text: &'p str,
         path: &'p str,
     ) -> Result<(), Failure<'p>> {
-        let set = self.set;
-        set.check()?;
+        let good = self.set.check()?;
         let message = read(self.rt, text, MESSAGE_LIMIT)?;
-        let twin = read(self.rt, path, set.signature_len(Gf31::encoding()))?;
+        let twin = read(self.rt, path, good.signature_len(Gf31::encoding()))?;
         let mut secret_key = read(self.rt, secret, 64)?;
         let made = wipe_after(secret_key.as_mut_slice(), |bytes| {
             self.show_making(message.as_slice(), bytes)

@@ -13,12 +13,11 @@ use suites::Named;
 impl Session<'_> {
     // The public key of a secret key, in buffers of the set's lengths.
     pub fn make<'p>(&self, secret_key: &[u8]) -> Result<Vec<u8>, Failure<'p>> {
-        let set = self.set;
-        set.check()?;
+        let good = self.set.check()?;
         let alloc = self.rt.alloc();
-        let mut map = vec![in alloc; 0u8; drawing_len(set.coefficients())]?;
+        let mut map = vec![in alloc; 0u8; drawing_len(good.coefficients())]?;
         let mut secret = vec![in alloc; 0u8; SECRET]?;
-        let mut key = vec![in alloc; 0u8; set.key_len(Gf31::encoding())]?;
+        let mut key = vec![in alloc; 0u8; good.key_len(Gf31::encoding())]?;
         make_key::<Gf31, Named>(
             self.set,
             &self.suite,
@@ -54,8 +53,8 @@ pub(crate) fn run_checkkey<'a>(
     set: Set,
     path: &'a str,
 ) -> Result<(), Failure<'a>> {
-    set.check()?;
-    let bytes = read(rt, path, set.key_len(Gf31::encoding()))?;
+    let good = set.check()?;
+    let bytes = read(rt, path, good.key_len(Gf31::encoding()))?;
     check_key::<Gf31>(set, bytes.as_slice())?;
     println!(rt; "lawful")?;
     Ok(())

@@ -10,8 +10,8 @@ use report::scan::scan;
 // Reads a signature from a file and says what it found. A file of another length than a signature's gets the line of its
 // refusal, and the reason on standard error.
 pub(crate) fn run_scan<'a>(rt: &HostRuntime, set: Set, path: &'a str) -> Result<(), Failure<'a>> {
-    set.check()?;
-    let wanted = set.signature_len(Gf31::encoding());
+    let good = set.check()?;
+    let wanted = good.signature_len(Gf31::encoding());
     let bytes = read(rt, path, wanted)?;
     let report = scan(set, bytes.as_slice());
     println!(rt; "{report}")?;

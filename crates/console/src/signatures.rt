@@ -19,13 +19,12 @@ impl Session<'_> {
         message: &[u8],
         secret_key: &[u8],
     ) -> Result<Vec<u8>, Failure<'p>> {
-        let set = self.set;
-        set.check()?;
+        let good = self.set.check()?;
         let alloc = self.rt.alloc();
-        let mut map = vec![in alloc; 0u8; drawing_len(set.coefficients())]?;
+        let mut map = vec![in alloc; 0u8; drawing_len(good.coefficients())]?;
         let mut list = vec![in alloc; 0u8; self.set.r.saturating_mul(64)]?;
         let mut secret = vec![in alloc; 0u8; SECRET]?;
-        let mut signature = vec![in alloc; 0u8; set.signature_len(Gf31::encoding())]?;
+        let mut signature = vec![in alloc; 0u8; good.signature_len(Gf31::encoding())]?;
         sign::<Gf31, Named>(
             self.set,
             &self.suite,
@@ -46,10 +45,9 @@ impl Session<'_> {
         key: &[u8],
         signature: &[u8],
     ) -> Result<(), Failure<'p>> {
-        let set = self.set;
-        set.check()?;
+        let good = self.set.check()?;
         let alloc = self.rt.alloc();
-        let mut map = vec![in alloc; 0u8; drawing_len(set.coefficients())]?;
+        let mut map = vec![in alloc; 0u8; drawing_len(good.coefficients())]?;
         let mut list = vec![in alloc; 0u8; self.set.r.saturating_mul(64)]?;
         verify::<Gf31, Named>(
             self.set,
@@ -92,11 +90,10 @@ impl Session<'_> {
         text: &'p str,
         path: &'p str,
     ) -> Result<(), Failure<'p>> {
-        let set = self.set;
-        set.check()?;
-        let key = read(self.rt, from, set.key_len(Gf31::encoding()))?;
+        let good = self.set.check()?;
+        let key = read(self.rt, from, good.key_len(Gf31::encoding()))?;
         let message = read(self.rt, text, MESSAGE_LIMIT)?;
-        let signature = read(self.rt, path, set.signature_len(Gf31::encoding()))?;
+        let signature = read(self.rt, path, good.signature_len(Gf31::encoding()))?;
         self.accept(message.as_slice(), key.as_slice(), signature.as_slice())
     }
 }
