@@ -1,6 +1,5 @@
 -- No rounds, and one more.
-use Rattle.std.proofs.Common.{◌≡◌, ℕ, ◌+◌, ◌<◌, List, [], ◌∷◌, ◌++◌, length, get_or, sym, refl, ap, ◌∙◌, subst, add-one, arith}
-use Rattle.std.proofs.lemmas.List.{get_or_at, get_or_append_left, length_push}
+use Rattle.std.proofs.Common.{◌≡◌, ℕ, ◌+◌, sym, refl, ap, subst, add-one}
 use Rattle.keccak.specs.State.{Rows}
 use Rattle.keccak.specs.Bits.{RoundBits, RoundsBits}
 use Rattle.keccak.specs.Rounds.{rounds, round_of}
