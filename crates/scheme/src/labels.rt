@@ -1,4 +1,5 @@
 // The labels of digests and streams, each in one place.
+// Bytes and no enum: a label is a byte of what is hashed, and a suite answers for every byte.
 
 // The commitments of a round.
 pub const COMMIT_0: u8 = 0;
