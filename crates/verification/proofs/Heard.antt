@@ -11,14 +11,13 @@ use Rattle.field.specs.Coding.{Coding}
 use Rattle.packing.specs.Packed.{elements}
 use Rattle.params.specs.declared.Set.{Set}
 use Rattle.params.specs.Sizes.{coefficients_of}
-use Rattle.wire.specs.Layout.{part}
 use Rattle.suite.specs.Meaning.{Meaning}
 use Rattle.suite.specs.Calls.{first}
 use Rattle.suite.specs.Drawn.{drawn}
 use Rattle.keys.specs.Keys.{vector_of}
 use Rattle.scheme.specs.Rounds.{taken}
 use Rattle.scheme.specs.Challenges.{D_of, h1_of, alpha_of, bit_of}
-use Rattle.scheme.specs.Verifying.{R_in, σ0_in, answers_length, commitment_of, opened, t1_in, e1_in, response_in, other_in, recomputed, commitment, commitments, listed, decided_of}
+use Rattle.scheme.specs.Verifying.{R_in, σ0_in, σ1_in, commitment_of, opened, t1_in, e1_in, response_in, other_in, recomputed, commitment, commitments, listed, decided_of}
 use Rattle.scheme.proofs.Outcomes.{then_from, unless_true}
 use Rattle.scheme.proofs.Rounds.{rounds_cong}
 use Rattle.verification.specs.Steps.{judged_of, first_seed, second_seed, heard_of}
@@ -49,10 +48,10 @@ module _ (C : Coding) (M : Meaning) (set : Set) (message sig : List ℕ) where
   pub first_is : (d base h1 : List ℕ) → h1 ≡ M.d 5 (d ++ base) → d ≡ D_of M (R_in sig) message → base ≡ σ0_in sig → h1 ≡ first_seed C M set message sig
   first_is d base h1 e of-d of-base = e ∙ ap₂ (h1_of M) of-d of-base
 
-  pub bits_are : (d base h1 : List ℕ) (size n : ℕ) (bits : List ℕ) → bits ≡ first (M.e 12 (M.d 6 (d ++ (base ++ (h1 ++ part sig 64 size))))) n
-      → d ≡ D_of M (R_in sig) message → base ≡ σ0_in sig → h1 ≡ first_seed C M set message sig → size ≡ answers_length C.bits set → n ≡ set.r
+  pub bits_are : (d base h1 σ1 : List ℕ) (n : ℕ) (bits : List ℕ) → bits ≡ first (M.e 12 (M.d 6 (d ++ (base ++ (h1 ++ σ1))))) n
+      → d ≡ D_of M (R_in sig) message → base ≡ σ0_in sig → h1 ≡ first_seed C M set message sig → σ1 ≡ σ1_in C.bits set sig → n ≡ set.r
       → bits ≡ first (M.e 12 (second_seed C M set message sig)) set.r
-  bits_are d base h1 size n bits e of-d of-base of-h1 of_size of_n = e ∙ rw (of-d, of-base, of-h1, of_size, of_n)
+  bits_are d base h1 σ1 n bits e of-d of-base of-h1 of-σ1 of_n = e ∙ rw (of-d, of-base, of-h1, of-σ1, of_n)
 
   pub heard : (r : Result (Unit {0}) Refusal) (cs v base alphas bits list : List ℕ) → Ok tt ≡ told (drawn C M 11 (first_seed C M set message sig) set.r)
       → base ≡ σ0_in sig → alphas ≡ taken C M 11 (first_seed C M set message sig) set.r → bits ≡ first (M.e 12 (second_seed C M set message sig)) set.r

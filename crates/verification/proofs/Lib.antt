@@ -1,6 +1,5 @@
 pub mod Loaded
-pub mod Places
-pub mod Openings
+pub mod Vectors
 pub mod Joined
 pub mod Heard
 pub mod Checks
