@@ -19,7 +19,8 @@ pub const USAGE: &str = "usage: mqdss scan N M R FILE
        mqdss demo SUITE N M R SECRETFILE MESSAGEFILE DAMAGEDFILE
 SUITE is bench or keccak; N, M, R, LABEL (0 to 255) and COUNT are decimal; files are raw bytes";
 
-fn number<'a>(word: &'a str) -> Result<usize, Failure<'a>> {
+// A number of a parameter set.
+fn number(word: &str) -> Result<usize, Failure<'_>> {
     word.parse().map_err(|_| Failure::Usage)
 }
 
@@ -32,15 +33,15 @@ fn set_of<'a>(n: &'a str, m: &'a str, r: &'a str) -> Result<Set, Failure<'a>> {
     })
 }
 
-fn suite_of<'a>(name: &'a str) -> Result<Named, Failure<'a>> {
+fn suite_of(name: &str) -> Result<Named, Failure<'_>> {
     name.parse().map_err(|_| Failure::NoSuite(name))
 }
 
-fn label_of<'a>(word: &'a str) -> Result<u8, Failure<'a>> {
+fn label_of(word: &str) -> Result<u8, Failure<'_>> {
     word.parse().map_err(|_| Failure::NoLabel(word))
 }
 
-fn count_of<'a>(word: &'a str) -> Result<usize, Failure<'a>> {
+fn count_of(word: &str) -> Result<usize, Failure<'_>> {
     word.parse().map_err(|_| Failure::NoCount(word))
 }
 
@@ -65,23 +66,26 @@ fn obey<'a>(rt: &HostRuntime, words: &[&'a str]) -> Result<(), Failure<'a>> {
         ["scan", n, m, r, path] => run_scan(rt, set_of(n, m, r)?, path),
         ["checkkey", n, m, r, path] => run_checkkey(rt, set_of(n, m, r)?, path),
         ["digest", suite, label, path] => run_digest(rt, suite_of(suite)?, label_of(label)?, path),
-        ["stream", suite, label, path, count] => run_stream(
-            rt,
-            suite_of(suite)?,
-            label_of(label)?,
-            path,
-            count_of(count)?,
-        ),
-        ["key", suite, n, m, r, from, to] => session_of(rt, suite, n, m, r)?.key(from, to),
-        ["sign", suite, n, m, r, secret, text, to] => session_of(rt, suite, n, m, r)?.sign(
-            secret, text, to,
-        ),
-        ["verify", suite, n, m, r, key, text, path] => session_of(rt, suite, n, m, r)?.verify(
-            key, text, path,
-        ),
-        ["demo", suite, n, m, r, secret, text, path] => session_of(rt, suite, n, m, r)?.demo(
-            secret, text, path,
-        ),
+        ["stream", suite, label, path, count] => {
+            let (suite, label, count) = (suite_of(suite)?, label_of(label)?, count_of(count)?);
+            run_stream(rt, suite, label, path, count)
+        }
+        ["key", suite, n, m, r, secret, to] => {
+            let session = session_of(rt, suite, n, m, r)?;
+            session.key(secret, to)
+        }
+        ["sign", suite, n, m, r, secret, text, to] => {
+            let session = session_of(rt, suite, n, m, r)?;
+            session.sign(secret, text, to)
+        }
+        ["verify", suite, n, m, r, key, text, path] => {
+            let session = session_of(rt, suite, n, m, r)?;
+            session.verify(key, text, path)
+        }
+        ["demo", suite, n, m, r, secret, text, path] => {
+            let session = session_of(rt, suite, n, m, r)?;
+            session.demo(secret, text, path)
+        }
         _ => Err(Failure::Usage),
     }
 }
