@@ -9,10 +9,14 @@ ghost use Rattle.scheme.specs.Verifying.{verify_of, Verifies};
 pub mod ask;
 pub mod challenge;
 pub mod commit;
+pub mod instance;
 pub mod labels;
+pub mod round;
 pub mod sizes;
 
 use field::Field;
+pub use instance::Instance;
+pub use round::Round;
 use suite::Suite;
 
 // What signing gives, verification accepts; and what verification accepts is said in the scheme's words, for every set, message, key and
