@@ -1,6 +1,5 @@
 -- The test of all entries of a vector.
-use Rattle.std.proofs.Common.{◌≡◌, ℕ, zero, suc, ◌+◌, ◌<◌, ◌≤◌, Bool, true, false, ◌&&◌, T, ltb, List, [], ◌∷◌, length, get_or, drop, refl, ap, ◌∙◌, arith}
-use Rattle.std.proofs.lemmas.List.{drop_more, drop_all}
+use Rattle.std.proofs.Common.{◌≡◌, ℕ, zero, suc, Bool, true, false, ◌&&◌, T, ltb, List, [], ◌∷◌, fold, refl, sym, ◌∙◌, arith}
 use Rattle.std.proofs.lemmas.Bool.{ltb-true}
 use Rattle.field.specs.Codes.{Codes}
 use Rattle.export.specs.Maps.{coded}
@@ -22,16 +21,14 @@ assoc : (a b c : Bool) → a && (b && c) ≡ (a && b) && c
 assoc true b c = refl
 assoc false b c = refl
 
--- a test over entries, one of which is taken in
-pub one_more : (ok : Bool) (v : List ℕ) (i : ℕ) → i < length v → ok && coded (drop i v) ≡ (ok && ltb (get_or v i 0) 31) && coded (drop (i + 1) v)
-one_more ok v i h = ap (λ (w : List ℕ). ok && coded w) (drop_more v i 0 h) ∙ assoc ok (ltb (get_or v i 0) 31) (coded (drop (i + 1) v))
-
 unit : (a : Bool) → a && true ≡ a
 unit true = refl
 unit false = refl
 
-pub at_end : (ok : Bool) (v : List ℕ) (i : ℕ) → length v ≤ i → ok && coded (drop i v) ≡ ok
-at_end ok v i h = ap (λ (w : List ℕ). ok && coded w) (drop_all i v h) ∙ unit ok
+-- the fold over the entries, from what those before it gave
+pub fold-coded : (ok : Bool) (v : List ℕ) → fold (λ a x. a && ltb x 31) ok v ≡ ok && coded v
+fold-coded ok [] = sym (unit ok)
+fold-coded ok (x ∷ xs) = fold-coded (ok && ltb x 31) xs ∙ sym (assoc ok (ltb x 31) (coded xs))
 
 pub is_true : (b : Bool) → T b → b ≡ true
 is_true true t = refl

@@ -1,6 +1,5 @@
 // Keccak-f, SHA3-256 and SHAKE128 (FIPS 202) for C.
-ghost use Rattle.std.specs.Prelude.{◌≡◌, ◌+◌, ◌≤◌, length, slice_index};
-ghost use Rattle.keccak.specs.State.{five};
+ghost use Rattle.std.specs.Prelude.{◌≡◌, length};
 ghost use Rattle.sha3.specs.Sponge.{later};
 ghost use Rattle.sha3.specs.Hash.{shake128 as shake, PaddedSha3, PaddedShake, Sha3Bits, ShakeBits};
 ghost use Rattle.export.specs.Calls.{status_of, bytes_of};
@@ -9,45 +8,27 @@ ghost use Rattle.export.specs.Hashes.{rows_of, flat, digest_call, permute_call};
 use keccak::{State, permute};
 use sha3::{sha3_256, shake128};
 
-// Five lanes from `at` on.
-fn row_at(lanes: &[u64], at: usize) -> [u64; 5]
-    requires { at + 5 ≤ length lanes.now }
-    ensures { result ≡ five (λ x. slice_index lanes.now (at + x)) }
-{
-    [
-        lanes[at],
-        lanes[at + 1],
-        lanes[at + 2],
-        lanes[at + 3],
-        lanes[at + 4],
-    ]
-}
-
 // The state of 25 lanes, row by row.
 fn state_of(lanes: &[u64]) -> State
     requires { length lanes.now ≡ 25 }
     ensures { result ≡ rows_of lanes.now }
 {
-    [
-        row_at(lanes, 0),
-        row_at(lanes, 5),
-        row_at(lanes, 10),
-        row_at(lanes, 15),
-        row_at(lanes, 20),
-    ]
+    let (rows, _) = lanes.as_chunks();
+    *rows.first_chunk().unwrap()
 }
 
+#[tactic(auto, using(sha3::proofs::Sponge::later_none, sha3::proofs::Sponge::later_more))]
 fn permute_often(mut a: State, times: usize) -> State
     ensures { result ≡ later times a }
 {
-    for i in 0..times {
+    for _ in 0..times {
         let next = permute(a);
         a = next;
     }
     a
 }
 
-// Writes a state over 25 lanes.
+// Writes a state over 25 lanes. By index: after `a.as_flattened()` the proof lacks the length of each row.
 fn put(a: State, lanes: &mut [u64])
     requires { length lanes.old ≡ 25 }
     ensures { lanes.new ≡ flat a }

@@ -36,12 +36,12 @@ pub fn beltscarp_make_key(
     ensures bytes { answer.new ≡ written_by (length answer.old) (asked (length told.old) suite (λ M. make_of coding31 M (set_by n m r) (length map.old) (length secret.old) (length answer.old) key.now)) }
     ensures zeros { secret.new ≡ replicate (length secret.old) 0 }
 {
-    if told.len() == 3 {
-        if let Some(named) = suite_by(suite) {
-            let set = Set { n, m, r };
-            let outcome = make_key::<Gf31, Named>(set, &named, map, secret, key, answer);
-            return tell(outcome, told);
-        }
+    if told.len() == 3
+        && let Some(named) = suite_by(suite)
+    {
+        let set = Set { n, m, r };
+        let outcome = make_key::<Gf31, Named>(set, &named, map, secret, key, answer);
+        return tell(outcome, told);
     }
     secret.fill(0);
     answer.fill(0);

@@ -12,11 +12,7 @@ fn coded(v: &[u8]) -> bool
     ensures value { result ≡ coded_of v.now }
     ensures codes { T result → Codes 31 v.now }
 {
-    let mut lawful = true;
-    for i in 0..v.len() {
-        lawful &= v[i] < 31;
-    }
-    lawful
+    v.iter().fold(true, |lawful, x| lawful & (*x < 31))
 }
 
 // Whether m equations in n variables have so many coefficients.

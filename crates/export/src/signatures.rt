@@ -34,12 +34,12 @@ pub fn beltscarp_sign(
     ensures bytes { answer.new ≡ written_by (length answer.old) (asked (length told.old) suite (λ M. sign_of coding31 M (set_by n m r) message.now (length map.old) (length list.old) (length secret.old) (length answer.old) key.now)) }
     ensures zeros { secret.new ≡ replicate (length secret.old) 0 }
 {
-    if told.len() == 3 {
-        if let Some(named) = suite_by(suite) {
-            let set = Set { n, m, r };
-            let outcome = sign::<Gf31, Named>(set, &named, message, map, list, secret, key, answer);
-            return tell(outcome, told);
-        }
+    if told.len() == 3
+        && let Some(named) = suite_by(suite)
+    {
+        let set = Set { n, m, r };
+        let outcome = sign::<Gf31, Named>(set, &named, message, map, list, secret, key, answer);
+        return tell(outcome, told);
     }
     secret.fill(0);
     answer.fill(0);
@@ -64,12 +64,12 @@ pub fn beltscarp_verify(
     ensures status { result ≡ answer_of (asked (length told.old) suite (λ M. verify_of coding31 M (set_by n m r) message.now (length map.old) (length list.old) key.now signature.now)) }
     ensures numbers { told.new ≡ numbers_in (length told.old) (asked (length told.old) suite (λ M. verify_of coding31 M (set_by n m r) message.now (length map.old) (length list.old) key.now signature.now)) }
 {
-    if told.len() == 3 {
-        if let Some(named) = suite_by(suite) {
-            let set = Set { n, m, r };
-            let outcome = verify::<Gf31, Named>(set, &named, message, map, list, key, signature);
-            return tell(outcome, told);
-        }
+    if told.len() == 3
+        && let Some(named) = suite_by(suite)
+    {
+        let set = Set { n, m, r };
+        let outcome = verify::<Gf31, Named>(set, &named, message, map, list, key, signature);
+        return tell(outcome, told);
     }
     told.fill(0);
     2
