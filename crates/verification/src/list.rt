@@ -50,6 +50,7 @@ impl<'a> Commitments<'a> {
         requires list { length list.old ≡ self.now.layout.set.set.r * 64 }
         ensures { list.new ≡ rounds_of self.now.layout.set.set.r (λ i. commitment_of (slice_index bits.now i % 2) 0 (part self.now.half.now (i * 32) 32) (other_in self.now.layout.encoding.bits self.now.layout.set.set self.now.signature.now i) ++ commitment_of (slice_index bits.now i % 2) 1 (part self.now.half.now (i * 32) 32) (other_in self.now.layout.encoding.bits self.now.layout.set.set self.now.signature.now i)) }
     {
+        // By index: after a loop that lends out chunks of `list`, a proof knows nothing of what stands in them.
         for i in 0..self.layout.set.set.r {
             let at = i * 64;
             self.write_round(i, bits[i] % 2, &mut list[at..at + 64]);

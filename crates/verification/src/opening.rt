@@ -30,13 +30,13 @@ impl<F: Field, S: Suite> Opening<'_, F, S> {
         let round = &self.round;
         let instance = round.instance;
         let Set { n, m, r: _ } = instance.set.set;
-        let mut first = [0u8; 64];
-        let mut second = [0u8; 64];
-        let mut third = [0u8; 64];
+        let mut t0 = [0u8; 64];
+        let mut value = [0u8; 64];
+        let mut e0 = [0u8; 64];
         let mut work = [0u8; PACKED];
-        let t0 = &mut first[0..n];
-        let value = &mut second[0..m];
-        let e0 = &mut third[0..m];
+        let t0 = &mut t0[0..n];
+        let value = &mut value[0..m];
+        let e0 = &mut e0[0..m];
         scaled_difference::<F>(self.alpha, round.r, round.t, t0);
         instance.map.evaluate(round.r, value);
         scaled_difference::<F>(self.alpha, value, round.e, e0);
@@ -52,14 +52,14 @@ impl<F: Field, S: Suite> Opening<'_, F, S> {
         let round = &self.round;
         let map = &round.instance.map;
         let m = round.instance.set.set.m;
-        let mut first = [0u8; 64];
-        let mut second = [0u8; 64];
-        let mut third = [0u8; 64];
-        let mut fourth = [0u8; 64];
-        let value = &mut first[0..m];
-        let left = &mut second[0..m];
-        let polar = &mut third[0..m];
-        let scaled = &mut fourth[0..m];
+        let mut value = [0u8; 64];
+        let mut left = [0u8; 64];
+        let mut polar = [0u8; 64];
+        let mut scaled = [0u8; 64];
+        let value = &mut value[0..m];
+        let left = &mut left[0..m];
+        let polar = &mut polar[0..m];
+        let scaled = &mut scaled[0..m];
         map.evaluate(round.r, value);
         difference::<F>(self.v, value, left);
         map.polar(round.t, round.r, polar);
@@ -74,9 +74,9 @@ impl<F: Field, S: Suite> Opening<'_, F, S> {
     {
         let round = &self.round;
         let instance = round.instance;
-        let mut room = [0u8; 64];
+        let mut g = [0u8; 64];
         let mut work = [0u8; PACKED];
-        let g = &mut room[0..instance.set.set.m];
+        let g = &mut g[0..instance.set.set.m];
         self.value(g);
         commit_1::<F, S>(instance.suite, round.r, g, &mut work)
     }

@@ -1,5 +1,6 @@
 // The rounds of a signature under its challenges: of each, the commitment that the response opens.
 ghost use Rattle.std.specs.Prelude.{◌≡◌, ◌*◌, ◌%◌, ◌<◌, length, slice_index};
+ghost use Rattle.std.specs.List.{flat_map};
 ghost use Rattle.field.specs.Codes.{Vector};
 ghost use Rattle.suite.specs.Drawn.{Elements};
 ghost use Rattle.scheme.specs.Rounds.{rounds};
@@ -14,9 +15,6 @@ use scheme::sizes::ROUNDS;
 use scheme::{Instance, Round};
 use suite::Suite;
 use wire::locate::Kind;
-
-// The bytes of a commitment for each of the most rounds.
-const HALF: usize = 32 * ROUNDS;
 
 // A signature under a key with the vector v, with the challenges α and the bytes whose lowest bits are the second challenges.
 #[derive(Drop)]
@@ -40,12 +38,12 @@ impl<F: Field, S: Suite> Verifier<'_, F, S> {
         ensures { result ≡ recomputed F.Field.coding (S.Suite.meaning self.now.instance.now.suite.now) self.now.instance.now.set.set self.now.instance.now.map.cs.now self.now.v.now self.now.signature.now.bytes.now (λ i. slice_index self.now.alphas.now i) (λ i. slice_index self.now.bits.now i % 2) round }
     {
         let Set { n, m, r: _ } = self.instance.set.set;
-        let mut first = [0u8; 64];
-        let mut second = [0u8; 64];
-        let mut third = [0u8; 64];
-        let t = &mut first[0..n];
-        let e = &mut second[0..m];
-        let r = &mut third[0..n];
+        let mut t = [0u8; 64];
+        let mut e = [0u8; 64];
+        let mut r = [0u8; 64];
+        let t = &mut t[0..n];
+        let e = &mut e[0..m];
+        let r = &mut r[0..n];
         self.signature.load(Kind::T1, round, t);
         self.signature.load(Kind::E1, round, e);
         self.signature.load(Kind::Response, round, r);
@@ -67,14 +65,12 @@ impl<F: Field, S: Suite> Verifier<'_, F, S> {
     }
 
     // The commitments that the responses open, of all rounds.
-    fn open_all(&self, half: &mut [u8])
-        requires { length half.old ≡ self.now.instance.now.set.set.r * 32 }
-        ensures { half.new ≡ rounds self.now.instance.now.set.set.r (recomputed F.Field.coding (S.Suite.meaning self.now.instance.now.suite.now) self.now.instance.now.set.set self.now.instance.now.map.cs.now self.now.v.now self.now.signature.now.bytes.now (λ i. slice_index self.now.alphas.now i) (λ i. slice_index self.now.bits.now i % 2)) }
+    fn open_all(&self, half: &mut [[u8; 32]])
+        requires { length half.old ≡ self.now.instance.now.set.set.r }
+        ensures { flat_map (λ opened. opened) half.new ≡ rounds self.now.instance.now.set.set.r (recomputed F.Field.coding (S.Suite.meaning self.now.instance.now.suite.now) self.now.instance.now.set.set self.now.instance.now.map.cs.now self.now.v.now self.now.signature.now.bytes.now (λ i. slice_index self.now.alphas.now i) (λ i. slice_index self.now.bits.now i % 2)) }
     {
-        for i in 0..self.instance.set.set.r {
-            let at = i * 32;
-            let opened = self.open(i);
-            half[at..at + 32].copy_from_slice(&opened);
+        for (i, place) in half.iter_mut().enumerate() {
+            *place = self.open(i);
         }
     }
 
@@ -83,13 +79,13 @@ impl<F: Field, S: Suite> Verifier<'_, F, S> {
         requires { length list.old ≡ self.now.instance.now.set.set.r * 64 }
         ensures { list.new ≡ commitments F.Field.coding (S.Suite.meaning self.now.instance.now.suite.now) self.now.instance.now.set.set self.now.instance.now.map.cs.now self.now.v.now self.now.signature.now.bytes.now (λ i. slice_index self.now.alphas.now i) (λ i. slice_index self.now.bits.now i % 2) }
     {
-        let mut buffer = [0u8; HALF];
-        let half = &mut buffer[0..self.instance.set.set.r * 32];
+        let mut half = [[0u8; 32]; ROUNDS];
+        let half = &mut half[0..self.instance.set.set.r];
         self.open_all(half);
         let commitments = Commitments {
             layout: self.signature.layout(),
             signature: self.signature.bytes,
-            half,
+            half: half.as_flattened(),
         };
         commitments.write(self.bits, list);
     }
