@@ -9,13 +9,7 @@ use suites::Named;
 pub fn suite_by(number: u32) -> Option<Named>
     ensures { result ≡ suite_of number }
 {
-    if number == 0 {
-        Some(Named::Bench)
-    } else if number == 1 {
-        Some(Named::Keccak)
-    } else {
-        None
-    }
+    Named::try_from(number).ok()
 }
 
 // Writes number, layer and place of a refusal, or zeros, and gives the status: numbers and a buffer, since C has no Result.

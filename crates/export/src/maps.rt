@@ -5,7 +5,7 @@ ghost use Rattle.export.specs.Calls.{status_of, bytes_of};
 ghost use Rattle.export.specs.Maps.{coded as coded_of, fits as fits_of, map_call, polar_call};
 
 use gf31::Gf31;
-use quadratic::{evaluate, evaluate_polar};
+use quadratic::Map;
 
 // Whether every entry is an element. It reads on behind one that is none: compilers turn this form into wide comparisons.
 fn coded(v: &[u8]) -> bool
@@ -30,7 +30,7 @@ pub fn beltscarp_map(coefficients: &[u8], x: &[u8], out: &mut [u8]) -> u32
     ensures value { out.new ≡ bytes_of (length out.old) (map_call coefficients.now x.now (length out.old)) }
 {
     if fits(coefficients.len(), x.len(), out.len()) && coded(coefficients) && coded(x) {
-        evaluate::<Gf31>(coefficients, x, out);
+        Map::<Gf31>::new(x.len(), out.len(), coefficients).evaluate(x, out);
         0
     } else {
         out.fill(0);
@@ -49,7 +49,7 @@ pub fn beltscarp_polar(coefficients: &[u8], x: &[u8], y: &[u8], out: &mut [u8]) 
         && coded(x)
         && coded(y)
     {
-        evaluate_polar::<Gf31>(coefficients, x, y, out);
+        Map::<Gf31>::new(x.len(), out.len(), coefficients).polar(x, y, out);
         0
     } else {
         out.fill(0);
