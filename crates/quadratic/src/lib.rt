@@ -1,10 +1,6 @@
 // The quadratic map and its polar form, over any field.
 #![tactic(auto)]
 
-ghost use Rattle.std.specs.Prelude.{◌≡◌, ◌*◌, ◌≤◌, length, replicate};
-ghost use Rattle.field.specs.Codes.{Codes};
-ghost use Rattle.algebra.specs.Quad.{size as size_of, F as map_of, G as polar_of};
-
 mod map;
 mod terms;
 #[cfg(test)]
@@ -12,36 +8,5 @@ mod tests;
 mod triangle;
 mod values;
 
-use field::Field;
 pub use map::Map;
 pub use values::MONOMIALS;
-
-// F(x): the map with the coefficients `cs`, in as many variables as `x` has entries and as many equations as `out` has places.
-pub fn evaluate<F: Field>(cs: &[u8], x: &[u8], out: &mut [u8])
-    requires short { length x.now ≤ 64 }
-    requires few { length out.old ≤ 64 }
-    requires len { length cs.now ≡ length out.old * size_of (length x.now) }
-    requires coefficients { Codes F.Field.coding.q cs.now }
-    requires entries { Codes F.Field.coding.q x.now }
-    ensures value { out.new ≡ map_of F.Field.coding.ops (length out.old) (length x.now) cs.now x.now }
-    ensures codes { Codes F.Field.coding.q out.new }
-{
-    let map = Map::<F>::new(x.len(), out.len(), cs);
-    map.evaluate(x, out);
-}
-
-// G(x, y) = F(x + y) - F(x) - F(y), in one pass over the coefficients: the linear parts cancel.
-pub fn evaluate_polar<F: Field>(cs: &[u8], x: &[u8], y: &[u8], out: &mut [u8])
-    requires short { length x.now ≤ 64 }
-    requires same { length y.now ≡ length x.now }
-    requires few { length out.old ≤ 64 }
-    requires len { length cs.now ≡ length out.old * size_of (length x.now) }
-    requires coefficients { Codes F.Field.coding.q cs.now }
-    requires left { Codes F.Field.coding.q x.now }
-    requires right { Codes F.Field.coding.q y.now }
-    ensures value { out.new ≡ polar_of F.Field.coding.ops (length out.old) (length x.now) cs.now x.now y.now }
-    ensures codes { Codes F.Field.coding.q out.new }
-{
-    let map = Map::<F>::new(x.len(), out.len(), cs);
-    map.polar(x, y, out);
-}

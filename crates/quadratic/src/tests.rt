@@ -1,12 +1,12 @@
 // The map and its polar form over the field of 31, on examples worked out by hand.
-use super::{evaluate, evaluate_polar};
+use super::Map;
 use gf31::Gf31;
 
 // 8·9·9 + 8·9 = 720 = 23·31 + 7
 #[test]
 fn one_variable(rt: HostRuntime) {
     let mut out = [0u8; 1];
-    evaluate::<Gf31>(&[8, 8], &[9], &mut out);
+    Map::<Gf31>::new(1, 1, &[8, 8]).evaluate(&[9], &mut out);
     assert_eq!(rt; out[0], 7);
 }
 
@@ -14,7 +14,8 @@ fn one_variable(rt: HostRuntime) {
 #[test]
 fn two_equations(rt: HostRuntime) {
     let mut out = [0u8; 2];
-    evaluate::<Gf31>(&[1, 2, 3, 4, 5, 6, 7, 8, 9, 10], &[3, 5], &mut out);
+    let map = Map::<Gf31>::new(2, 2, &[1, 2, 3, 4, 5, 6, 7, 8, 9, 10]);
+    map.evaluate(&[3, 5], &mut out);
     assert_eq!(rt; out, [27, 2]);
 }
 
@@ -22,11 +23,7 @@ fn two_equations(rt: HostRuntime) {
 #[test]
 fn polar(rt: HostRuntime) {
     let mut out = [0u8; 2];
-    evaluate_polar::<Gf31>(
-        &[1, 2, 3, 4, 5, 6, 7, 8, 9, 10],
-        &[3, 5],
-        &[7, 11],
-        &mut out,
-    );
+    let map = Map::<Gf31>::new(2, 2, &[1, 2, 3, 4, 5, 6, 7, 8, 9, 10]);
+    map.polar(&[3, 5], &[7, 11], &mut out);
     assert_eq!(rt; out, [12, 27]);
 }

@@ -1,30 +1,19 @@
 // Refusals in words, for people.
-use refusal::{Buffer, Refusal};
+use refusal::Refusal;
 use std::fmt;
 
 #[derive(Clone, Copy)]
 pub struct Words(pub Refusal);
-
-// A function: a Display for `Buffer` can stand in its own crate alone, and a wrapper would hold these same five arms.
-fn buffer_name(buffer: Buffer) -> &'static str {
-    match buffer {
-        Buffer::Map => "map",
-        Buffer::List => "list",
-        Buffer::Secret => "secret",
-        Buffer::Answer => "answer",
-        Buffer::Store => "store",
-    }
-}
 
 impl fmt::Display for Words {
     fn fmt<W: fmt::Write>(&self, f: &mut fmt::Formatter<W>) -> fmt::Result {
         match self.0 {
             Refusal::BadSet => write!(f, "n and m are 1 to 64, and r is 1 to 269"),
             Refusal::MessageTooLong => write!(f, "the message has more than 65536 bytes"),
-            Refusal::BufferLength { layer: _, buffer } => {
-                let name = buffer_name(buffer);
-                write!(f, "the {name} buffer has a wrong length")
-            }
+            Refusal::BufferLength { layer: _, buffer } => write!(
+                f,
+                "the {buffer} buffer has a wrong length"
+            ),
             Refusal::WatchFull => write!(f, "all slots of the watch are used"),
             Refusal::SlotNotUsed => write!(f, "the slot is not used"),
             Refusal::ChallengeOutOfRange => write!(f, "the challenge is out of range"),
