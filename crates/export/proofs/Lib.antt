@@ -1,4 +1,2 @@
 -- Lemmas for the exported functions.
 mod Codes
-mod Sizes
-mod Permuted
