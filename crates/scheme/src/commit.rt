@@ -17,12 +17,11 @@ fn commit<F: Field, S: Suite>(
     suite: &S,
     label: u8,
     r: &[u8],
-    room: &mut [u8],
+    room: &mut [u8; 64],
     behind: &[u8],
 ) -> [u8; 32]
     requires few { length r.now ≤ 64 }
     requires codes { Codes F.Field.coding.q r.now }
-    requires room { 64 ≤ length room.old }
     requires short { length behind.now ≤ 128 }
     ensures { result ≡ (S.Suite.meaning suite.now).d label (packed F.Field.coding.bits r.now ++ behind.now) }
 {
@@ -50,7 +49,7 @@ pub fn commit_0<F: Field, S: Suite>(
 {
     let encoding = F::encoding();
     let both = encoding.width(t.len()) + encoding.width(e.len());
-    let (front, back) = work.split_at_mut(64);
+    let (front, back) = work.split_first_chunk_mut::<64>().unwrap();
     let behind = &mut back[0..both];
     store_both::<F>(t, e, behind);
     commit::<F, S>(suite, labels::COMMIT_0, r, front, behind)
@@ -65,7 +64,7 @@ pub fn commit_1<F: Field, S: Suite>(suite: &S, r: &[u8], g: &[u8], work: &mut [u
     requires work { 192 ≤ length work.old }
     ensures { result ≡ (S.Suite.meaning suite.now).d 1 (X1 F.Field.coding.bits r.now g.now) }
 {
-    let (front, back) = work.split_at_mut(64);
+    let (front, back) = work.split_first_chunk_mut::<64>().unwrap();
     let behind = &mut back[0..F::encoding().width(g.len())];
     store::<F>(g, behind);
     commit::<F, S>(suite, labels::COMMIT_1, r, front, behind)

@@ -22,18 +22,6 @@ use Rattle.scheme.proofs.Outcomes.{then_from, unless_true}
 use Rattle.scheme.proofs.Rounds.{rounds_cong}
 use Rattle.verification.specs.Steps.{judged_of, first_seed, second_seed, heard_of}
 
--- σ0 against the digest of the list
-module _ (M : Meaning) (list digest base : List ℕ) (is : digest ≡ M.d 2 list) where
-  pub judged_same : digest ≡ base → Ok tt ≡ judged_of M list base
-  judged_same e = sym (unless_true _ NotAccepted ((bytes_eq-Decides (M.d 2 list) base).1 (sym is ∙ e)))
-
-  pub judged_other : (digest ≡ base → ⊥) → Err NotAccepted ≡ judged_of M list base
-  judged_other n =
-      elim (cases_Bool (bytes_eq (M.d 2 list) base)) [
-        | inl t ↦ absurd (n (is ∙ (bytes_eq-Decides (M.d 2 list) base).0 t))
-        | inr f ↦ rw f
-      ]
-
 -- challenges that agree on every round give the same list
 pub challenges_cong : (C : Coding) (M : Meaning) (set : Set) (cs v sig : List ℕ) (α β a b : ℕ → ℕ) → ((i : ℕ) → i < set.r → α i ≡ a i) → ((i : ℕ) → i < set.r → β i ≡ b i)
     → commitments C M set cs v sig α β ≡ commitments C M set cs v sig a b

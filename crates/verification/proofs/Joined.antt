@@ -15,7 +15,7 @@ module _ (C : Coding) (M : Meaning) (L : Lawful M) (set : Set) (cs v sig : List 
 
   -- under a set and a number of bits that are these
   pub joined_rounds : (b : ℕ) (here : Set) (half : List ℕ) → b ≡ C.bits → here ≡ set → half ≡ rounds set.r (recomputed C M set cs v sig α bit)
-      → rounds here.r (λ i. commitment_of (bit i) 0 (part half (i * 32) 32) (other_in b here sig i) ++ commitment_of (bit i) 1 (part half (i * 32) 32) (other_in b here sig i))
+      → rounds set.r (λ i. commitment_of (bit i) 0 (part half (i * 32) 32) (other_in b here sig i) ++ commitment_of (bit i) 1 (part half (i * 32) 32) (other_in b here sig i))
       ≡ commitments C M set cs v sig α bit
   unfolding commitments commitment
   joined_rounds b here half of-b of-set is =

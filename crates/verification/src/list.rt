@@ -1,8 +1,7 @@
-// The commitment list of a signature: of each round one commitment that was worked out anew, and one that the signature carries.
-ghost use Rattle.std.specs.Prelude.{◌≡◌, ◌*◌, ◌%◌, ◌<◌, ◌++◌, length, slice_index};
+// The commitments of a signature: of each round one commitment that was worked out anew, and one that the signature carries.
+ghost use Rattle.std.specs.Prelude.{◌≡◌, ◌*◌, ◌<◌, ◌++◌, length};
 ghost use Rattle.params.specs.Sizes.{signature_length};
 ghost use Rattle.wire.specs.Layout.{part};
-ghost use Rattle.scheme.specs.Rounds.{rounds as rounds_of};
 ghost use Rattle.scheme.specs.Verifying.{commitment_of, other_in};
 
 use wire::layout::Layout;
@@ -34,7 +33,7 @@ impl<'a> Commitments<'a> {
     }
 
     // Both commitments of a round, one behind the other.
-    fn write_round(&self, round: usize, bit: u8, out: &mut [u8])
+    pub fn write_round(&self, round: usize, bit: u8, out: &mut [u8])
         requires round { round < self.now.layout.set.set.r }
         requires out { length out.old ≡ 64 }
         ensures { out.new ≡ commitment_of bit 0 (part self.now.half.now (round * 32) 32) (other_in self.now.layout.encoding.bits self.now.layout.set.set self.now.signature.now round) ++ commitment_of bit 1 (part self.now.half.now (round * 32) 32) (other_in self.now.layout.encoding.bits self.now.layout.set.set self.now.signature.now round) }
@@ -42,18 +41,5 @@ impl<'a> Commitments<'a> {
         let (c0, c1) = out.split_at_mut(32);
         c0.copy_from_slice(self.commitment(round, bit, 0));
         c1.copy_from_slice(self.commitment(round, bit, 1));
-    }
-
-    // Both commitments of every round, by the lowest bit of each byte of `bits`.
-    pub fn write(&self, bits: &[u8], list: &mut [u8])
-        requires bits { length bits.now ≡ self.now.layout.set.set.r }
-        requires list { length list.old ≡ self.now.layout.set.set.r * 64 }
-        ensures { list.new ≡ rounds_of self.now.layout.set.set.r (λ i. commitment_of (slice_index bits.now i % 2) 0 (part self.now.half.now (i * 32) 32) (other_in self.now.layout.encoding.bits self.now.layout.set.set self.now.signature.now i) ++ commitment_of (slice_index bits.now i % 2) 1 (part self.now.half.now (i * 32) 32) (other_in self.now.layout.encoding.bits self.now.layout.set.set self.now.signature.now i)) }
-    {
-        // By index: after a loop that lends out chunks of `list`, a proof knows nothing of what stands in them.
-        for i in 0..self.layout.set.set.r {
-            let at = i * 64;
-            self.write_round(i, bits[i] % 2, &mut list[at..at + 64]);
-        }
     }
 }

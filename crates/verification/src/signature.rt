@@ -18,7 +18,7 @@ use wire::layout::Layout;
 use wire::locate::Kind;
 use wire::{VECTORS, check_vectors};
 
-// The bytes of a vector of a round.
+// The bytes of a vector of a round. A round's number is a plain index: a type for it would have to carry the set that it counts in.
 fn packed(layout: Layout, bytes: &[u8], kind: Kind, round: usize) -> &[u8]
     requires long { length bytes.now ≡ signature_length layout.encoding.bits layout.set.set }
     requires round { round < layout.set.set.r }

@@ -16,7 +16,8 @@ use scheme::{Instance, Round};
 use suite::Suite;
 use wire::locate::Kind;
 
-// A signature under a key with the vector v, with the challenges α and the bytes whose lowest bits are the second challenges.
+// A signature under a key with the vector v, with the challenges α and the bytes whose lowest bits are the second challenges. The two
+// stand apart as they are drawn, each from a stream of its own.
 #[derive(Drop)]
 pub struct Verifier<'a, F: Field, S: Suite> {
     pub instance: &'a Instance<'a, F, S>,
@@ -87,6 +88,10 @@ impl<F: Field, S: Suite> Verifier<'_, F, S> {
             signature: self.signature.bytes,
             half: half.as_flattened(),
         };
-        commitments.write(self.bits, list);
+        // By index: after a loop that lends out chunks of `list`, a proof knows nothing of what stands in them.
+        for i in 0..self.instance.set.set.r {
+            let at = i * 64;
+            commitments.write_round(i, self.bits[i] % 2, &mut list[at..at + 64]);
+        }
     }
 }
