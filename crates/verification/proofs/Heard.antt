@@ -1,11 +1,7 @@
 -- The steps of the decision, from what the code holds to what they come to.
-use Rattle.std.proofs.Common.{◌≡◌, ℕ, ◌%◌, ◌<◌, List, ◌++◌, get_or, take, Ok, Err, Result, sym, refl, ap, ◌∙◌, ap₂, inl, inr, arith}
-use Rattle.std.specs.Str.{bytes_eq}
+use Rattle.std.proofs.Common.{◌≡◌, ℕ, ◌%◌, ◌<◌, List, ◌++◌, get_or, take, Ok, Result, sym, refl, ap, ◌∙◌, ap₂, arith}
 use Rattle.std.proofs.lemmas.List.FromFn.{get_or-map-range_with_len}
-use Rattle.std.proofs.lemmas.Slice.Eq.{bytes_eq-Decides}
-use Rattle.std.proofs.lemmas.Bool.{cases_Bool}
 use Rattle.refusal.specs.declared.Refusal.{Refusal}
-use Rattle.refusal.specs.declared.Refusal.TheVariants.{NotAccepted}
 use Rattle.refusal.specs.Outcome.{told}
 use Rattle.field.specs.Coding.{Coding}
 use Rattle.packing.specs.Packed.{elements}
@@ -18,7 +14,7 @@ use Rattle.keys.specs.Keys.{vector_of}
 use Rattle.scheme.specs.Rounds.{taken}
 use Rattle.scheme.specs.Challenges.{D_of, h1_of, alpha_of, bit_of}
 use Rattle.scheme.specs.Verifying.{R_in, σ0_in, σ1_in, commitment_of, opened, t1_in, e1_in, response_in, other_in, recomputed, commitment, commitments, listed, decided_of}
-use Rattle.scheme.proofs.Outcomes.{then_from, unless_true}
+use Rattle.scheme.proofs.Outcomes.{then_from}
 use Rattle.scheme.proofs.Rounds.{rounds_cong}
 use Rattle.verification.specs.Steps.{judged_of, first_seed, second_seed, heard_of}
 

@@ -1,4 +1,4 @@
-use Rattle.std.proofs.Common.{◌%◌, get_or, ap, ◌∙◌, sym, arith}
+use Rattle.std.proofs.Common.{◌%◌, get_or, ap, ◌∙◌, arith}
 use Rattle.scheme.proofs.Writes.{written_none, written_more, written_all, round_room}
 use Rattle.verification.proofs.Joined.{joined_rounds}
 use Rattle.verification.proofs.verifier.Verifier.write_list.Goals as goal
