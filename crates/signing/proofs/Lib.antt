@@ -1,6 +1,5 @@
-pub mod Pools
-pub mod Going
-pub mod Counts
+pub mod Fronts
+pub mod Walks
 pub mod Lengths
 pub mod Signed
 pub mod Stepwise

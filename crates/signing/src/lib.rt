@@ -1,10 +1,9 @@
 // Signing: the signature of a message under a secret key.
 #![tactic(auto)]
 
-ghost use Rattle.std.specs.Prelude.{◌≡◌, ◌*◌, ◌≤◌, true, length, replicate};
+ghost use Rattle.std.specs.Prelude.{◌≡◌, ◌*◌, ◌≤◌, length, replicate};
 ghost use Rattle.refusal.specs.Outcome.{told, written};
 ghost use Rattle.field.specs.Coding.{reads};
-ghost use Rattle.params.specs.Sets.{good};
 ghost use Rattle.params.specs.Sizes.{coefficients_of, signature_length};
 ghost use Rattle.scheme.specs.Signing.{sign_buffers_of, signed_of, sign_of};
 
@@ -14,55 +13,44 @@ mod finish;
 mod pool;
 mod response;
 mod rounds;
+mod signer;
 mod write;
 
 use field::Field;
-use keys::secret::Secret;
-use keys::{SECRET, halves, wrong};
+use keys::{SECRET, halves, lent};
 use packing::encoding::Encoding;
-use params::{Set, drawing_len};
+use params::{GoodSet, Set, drawing_len};
 use refusal::{Buffer, Refusal};
-use rounds::sign_rounds;
-use scheme::ask::{draw_into, hash};
-use scheme::labels;
+use scheme::ask::draw_into;
 use scheme::sizes::MESSAGE_LIMIT;
+use scheme::{Instance, labels};
+use signer::{Desk, Signer};
 use suite::Suite;
+use wiping::Wiped;
 
-// The parts of the secret buffer: the secret vector's drawing, a round's drawing, and the rest to work in.
+// The bytes that drawing the secret vector reads.
 const OWN: usize = 136;
-
-const POOL: usize = 280;
 
 // The lengths of the buffers that signing is lent.
 fn check_buffers(
     encoding: Encoding,
-    set: Set,
+    set: GoodSet,
     map: usize,
     list: usize,
     secret: usize,
     answer: usize,
 ) -> Result<(), Refusal>
-    requires { good set ≡ true }
-    ensures { result ≡ sign_buffers_of encoding.bits set map list secret answer }
+    ensures { result ≡ sign_buffers_of encoding.bits set.set map list secret answer }
 {
-    if map < drawing_len(set.coefficients()) {
-        return Err(wrong(Buffer::Map));
-    }
-    if list < 64 * set.r {
-        return Err(wrong(Buffer::List));
-    }
-    if secret < SECRET {
-        return Err(wrong(Buffer::Secret));
-    }
-    if answer != set.signature_len(encoding) {
-        return Err(wrong(Buffer::Answer));
-    }
-    Ok(())
+    lent(Buffer::Map, map >= drawing_len(set.coefficients()))?;
+    lent(Buffer::List, list >= 64 * set.set.r)?;
+    lent(Buffer::Secret, secret >= SECRET)?;
+    lent(Buffer::Answer, answer == set.signature_len(encoding))
 }
 
 // Writes the signature under the seeds K and S of a secret key, over buffers that are long enough.
 fn sign_seeds<F: Field, S: Suite>(
-    set: Set,
+    set: GoodSet,
     suite: &S,
     message: &[u8],
     map: &mut [u8],
@@ -72,38 +60,33 @@ fn sign_seeds<F: Field, S: Suite>(
     seed: &[u8; 32],
     answer: &mut [u8],
 ) -> Result<(), Refusal>
-    requires good { good set ≡ true }
     requires message { length message.now ≤ 65536 }
-    requires map { reads (coefficients_of set) ≤ length map.old }
-    requires list { 64 * set.r ≤ length list.old }
+    requires map { reads (coefficients_of set.set) ≤ length map.old }
+    requires list { 64 * set.set.r ≤ length list.old }
     requires secret { 1024 ≤ length secret.old }
-    requires answer { length answer.old ≡ signature_length F.Field.coding.bits set }
+    requires answer { length answer.old ≡ signature_length F.Field.coding.bits set.set }
     requires zeros { answer.old ≡ replicate (length answer.old) 0 }
-    ensures answer { result ≡ told (signed_of F.Field.coding (S.Suite.meaning suite.now) set k.now seed.now message.now) }
-    ensures bytes { answer.new ≡ written (length answer.old) (signed_of F.Field.coding (S.Suite.meaning suite.now) set k.now seed.now message.now) }
+    ensures answer { result ≡ told (signed_of F.Field.coding (S.Suite.meaning suite.now) set.set k.now seed.now message.now) }
+    ensures bytes { answer.new ≡ written (length answer.old) (signed_of F.Field.coding (S.Suite.meaning suite.now) set.set k.now seed.now message.now) }
 {
-    let n = set.n;
+    let Set { n, m: _, r } = set.set;
     let count = set.coefficients();
-    let size = set.r * 64;
     let (own, rest) = secret.split_at_mut(OWN);
-    let (pool, work) = rest.split_at_mut(POOL);
+    let (pool, rest) = rest.split_first_chunk_mut().unwrap();
+    let work = rest.first_chunk_mut().unwrap();
+    let mut desk = Desk { pool, work };
     draw_into::<F, S>(suite, labels::SECRET, k, own, n)?;
     draw_into::<F, S>(suite, labels::MAP, seed, map, count)?;
-    let randomizer = hash(suite, labels::RANDOMIZER, k, message);
-    let d = hash(suite, labels::MESSAGE, &randomizer, message);
-    sign_rounds::<F, S>(
-        set,
-        suite,
-        &map[0..count],
-        &own[0..n],
+    let randomizer = suite.digest_within(labels::RANDOMIZER, k, message);
+    let d = suite.digest_within(labels::MESSAGE, &randomizer, message);
+    let signer = Signer::<F, S> {
+        instance: Instance::new(set, suite, &map[0..count]),
+        s: &own[0..n],
         k,
-        &randomizer,
-        &d,
-        pool,
-        work,
-        &mut list[0..size],
-        answer,
-    )
+        randomizer: &randomizer,
+        d: &d,
+    };
+    signer.sign(&mut desk, &mut list[0..r * 64], answer)
 }
 
 // The signature of a message. However it ends, `secret` is zeros; where it is refused, so is `answer`.
@@ -122,8 +105,8 @@ pub fn sign<F: Field, S: Suite>(
     ensures zeros { secret.new ≡ replicate (length secret.old) 0 }
 {
     answer.fill(0);
-    let guard = Secret { bytes: secret };
-    set.check()?;
+    let guard = Wiped { items: secret };
+    let set = set.check()?;
     if message.len() > MESSAGE_LIMIT {
         return Err(Refusal::MessageTooLong);
     }
@@ -132,9 +115,9 @@ pub fn sign<F: Field, S: Suite>(
         set,
         map.len(),
         list.len(),
-        guard.bytes.len(),
+        guard.items.len(),
         answer.len(),
     )?;
     let (k, seed) = halves(key)?;
-    sign_seeds::<F, S>(set, suite, message, map, list, guard.bytes, k, seed, answer)
+    sign_seeds::<F, S>(set, suite, message, map, list, guard.items, k, seed, answer)
 }

@@ -1,86 +1,54 @@
 // The signature's bytes, section by section.
-ghost use Rattle.std.specs.Prelude.{◌≡◌, ◌+◌, ◌*◌, ◌%◌, ◌≤◌, true, ◌++◌, length, take, Ok, slice_index};
-ghost use Rattle.field.specs.Codes.{Vector};
-ghost use Rattle.params.specs.Sets.{good};
+ghost use Rattle.std.specs.Prelude.{◌≡◌, ◌+◌, ◌*◌, ◌%◌, ◌++◌, length, take, Ok, slice_index};
 ghost use Rattle.params.specs.Sizes.{signature_length};
-ghost use Rattle.algebra.specs.Quad.{size as size_of};
 ghost use Rattle.suite.specs.Drawn.{Elements};
 ghost use Rattle.scheme.specs.Signing.{pools_of, answers, responses};
 ghost use Rattle.scheme.specs.Verifying.{answers_length};
 ghost use Rattle.signing.specs.Steps.{carried};
 
-use crate::answer::answer_rounds;
-use crate::response::{carry_rounds, respond_rounds};
+use crate::response::carry;
+use crate::signer::{Desk, Signer};
 use field::Field;
-use params::Set;
-use scheme::sizes::{answers_len, responses_len};
 use suite::Suite;
+use wire::layout::Layout;
 
-// R, σ0, and the first answers.
-pub fn write_first<F: Field, S: Suite>(
-    set: Set,
-    suite: &S,
-    cs: &[u8],
-    k: &[u8; 32],
-    d: &[u8; 32],
-    randomizer: &[u8; 32],
-    base: &[u8; 32],
-    alphas: &[u8],
-    pool: &mut [u8],
-    work: &mut [u8],
-    answer: &mut [u8],
-)
-    requires good { good set ≡ true }
-    requires cs { Vector F.Field.coding.q (set.m * size_of set.n) cs.now }
-    requires pools { pools_of F.Field.coding (S.Suite.meaning suite.now) set k.now d.now ≡ Ok tt }
-    requires alphas { Elements F.Field.coding.q set.r alphas.now }
-    requires pool { 280 ≤ length pool.old }
-    requires work { 512 ≤ length work.old }
-    requires answer { length answer.old ≡ signature_length F.Field.coding.bits set }
-    ensures { take (64 + answers_length F.Field.coding.bits set) answer.new ≡ randomizer.now ++ (base.now ++ answers F.Field.coding (S.Suite.meaning suite.now) set k.now d.now cs.now (λ i. slice_index alphas.now i)) }
-{
-    let size = answers_len(F::encoding(), set);
-    answer[0..32].copy_from_slice(randomizer);
-    answer[32..64].copy_from_slice(base);
-    let _ = answer_rounds::<F, S>(
-        set,
-        suite,
-        cs,
-        k,
-        d,
-        alphas,
-        pool,
-        work,
-        &mut answer[64..64 + size],
-    );
-}
+impl<F: Field, S: Suite> Signer<'_, F, S> {
+    // R, σ0, and the first answers.
+    pub fn write_first(&self, base: &[u8; 32], alphas: &[u8], desk: &mut Desk, answer: &mut [u8])
+        requires pools { pools_of F.Field.coding (S.Suite.meaning self.now.instance.suite.now) self.now.instance.set.set self.now.k.now self.now.d.now ≡ Ok tt }
+        requires alphas { Elements F.Field.coding.q self.now.instance.set.set.r alphas.now }
+        requires answer { length answer.old ≡ signature_length F.Field.coding.bits self.now.instance.set.set }
+        ensures { take (64 + answers_length F.Field.coding.bits self.now.instance.set.set) answer.new ≡ self.now.randomizer.now ++ (base.now ++ answers F.Field.coding (S.Suite.meaning self.now.instance.suite.now) self.now.instance.set.set self.now.k.now self.now.d.now self.now.instance.map.cs.now (λ i. slice_index alphas.now i)) }
+    {
+        let set = self.instance.set;
+        let layout = Layout {
+            set,
+            encoding: F::encoding(),
+        };
+        let end = 64 + layout.answers_len();
+        let randomizer = self.randomizer;
+        answer[0..32].copy_from_slice(randomizer);
+        answer[32..64].copy_from_slice(base);
+        // not refused: each round draws what it drew before
+        let _ = self.answer(alphas, desk, &mut answer[64..end]);
+    }
 
-// The responses and the other sides' commitments, behind what is written.
-pub fn write_second<F: Field, S: Suite>(
-    set: Set,
-    suite: &S,
-    s: &[u8],
-    k: &[u8; 32],
-    d: &[u8; 32],
-    list: &[u8],
-    bits: &[u8],
-    pool: &mut [u8],
-    work: &mut [u8],
-    answer: &mut [u8],
-)
-    requires good { good set ≡ true }
-    requires s { Vector F.Field.coding.q set.n s.now }
-    requires pools { pools_of F.Field.coding (S.Suite.meaning suite.now) set k.now d.now ≡ Ok tt }
-    requires list { length list.now ≡ set.r * 64 }
-    requires bits { length bits.now ≡ set.r }
-    requires pool { 280 ≤ length pool.old }
-    requires work { 512 ≤ length work.old }
-    requires answer { length answer.old ≡ signature_length F.Field.coding.bits set }
-    ensures { answer.new ≡ take (64 + answers_length F.Field.coding.bits set) answer.old ++ (responses F.Field.coding (S.Suite.meaning suite.now) set k.now d.now s.now (λ i. slice_index bits.now i % 2) ++ carried set list.now bits.now) }
-{
-    let encoding = F::encoding();
-    let at = 64 + answers_len(encoding, set);
-    let end = at + responses_len(encoding, set);
-    let _ = respond_rounds::<F, S>(set, suite, s, k, d, bits, pool, work, &mut answer[at..end]);
-    carry_rounds(set, list, bits, &mut answer[end..]);
+    // The responses and the other sides' commitments, behind what is written.
+    pub fn write_second(&self, list: &[u8], bits: &[u8], desk: &mut Desk, answer: &mut [u8])
+        requires pools { pools_of F.Field.coding (S.Suite.meaning self.now.instance.suite.now) self.now.instance.set.set self.now.k.now self.now.d.now ≡ Ok tt }
+        requires list { length list.now ≡ self.now.instance.set.set.r * 64 }
+        requires bits { length bits.now ≡ self.now.instance.set.set.r }
+        requires answer { length answer.old ≡ signature_length F.Field.coding.bits self.now.instance.set.set }
+        ensures { answer.new ≡ take (64 + answers_length F.Field.coding.bits self.now.instance.set.set) answer.old ++ (responses F.Field.coding (S.Suite.meaning self.now.instance.suite.now) self.now.instance.set.set self.now.k.now self.now.d.now self.now.s.now (λ i. slice_index bits.now i % 2) ++ carried self.now.instance.set.set list.now bits.now) }
+    {
+        let set = self.instance.set;
+        let layout = Layout {
+            set,
+            encoding: F::encoding(),
+        };
+        let at = 64 + layout.answers_len();
+        let end = at + layout.responses_len();
+        let _ = self.respond(bits, desk, &mut answer[at..end]);
+        carry(set, list, bits, &mut answer[end..]);
+    }
 }

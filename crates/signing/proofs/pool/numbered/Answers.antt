@@ -1,16 +1,15 @@
-use Rattle.std.proofs.Common.{◌≡◌, ℕ, ◌/◌, ◌%◌, List, [], ◌∷◌, ◌++◌, length, set, ap, ◌∙◌, arith}
-use Rattle.std.proofs.lemmas.List.{set-append_right}
-use Rattle.scheme.specs.Rounds.{two}
+use Rattle.std.proofs.Common.{◌≡◌, ℕ, ◌/◌, ◌%◌, [], ◌∷◌, length, ap, ◌∙◌, ap₂, ◌++◌, arith}
+use borrow.Rule.Slice.PartMut.{put_mid}
+use Rattle.vectors.proofs.Stored.{two_parts}
+use Rattle.std.proofs.Common.{List, ◌-◌, length-append}
 use Rattle.signing.proofs.pool.numbered.Goals as goal
-
--- the two bytes behind 32 others
-written : (xs : List ℕ) (a b : ℕ) → length xs ≡ 32 → set (set (xs ++ (0 ∷ (0 ∷ []))) 32 a) 33 b ≡ xs ++ (a ∷ (b ∷ []))
-written xs a b h =
-    ap (λ (t : List ℕ). set t 33 b) (set-append_right xs (0 ∷ (0 ∷ [])) 32 32 a h (omega arith))
-    ∙ set-append_right xs (a ∷ (0 ∷ [])) 32 33 b h (omega arith)
 
 pub returns : goal.returns
 returns c =
     let long : length c.copy_from_slice.new.self ≡ 32 = omega arith in
-    written c.copy_from_slice.new.self (c.args.round % 256) (c.args.round / 256) long
-    ∙ ap (λ (t : List ℕ). t ++ two c.args.round) c.copy_from_slice.ensures.after
+    let out : List ℕ = c.copy_from_slice.new.self ++ (0 ∷ (0 ∷ [])) in
+    let room : 2 ≡ length out - 32 = omega (arith, length-append c.copy_from_slice.new.self (0 ∷ (0 ∷ []))) in
+    let high : c.args.round / 256 % 256 ≡ c.args.round / 256 = omega arith in
+    ap (λ (k : ℕ). put_mid 32 k out c.copy_from_slice-2.new.self) room
+    ∙ two_parts c.copy_from_slice.new.self _ c.copy_from_slice-2.new.self 32 long
+    ∙ ap₂ ◌++◌ c.copy_from_slice.ensures.after (c.copy_from_slice-2.ensures.after ∙ c.to_le_bytes.ensures ∙ ap (λ (b : ℕ). c.args.round % 256 ∷ (b ∷ [])) high)

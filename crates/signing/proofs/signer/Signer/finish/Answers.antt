@@ -5,21 +5,21 @@ use Rattle.suite.specs.Calls.{first}
 use Rattle.wire.specs.Layout.{part}
 use Rattle.scheme.specs.Verifying.{answers_length}
 use Rattle.signing.proofs.Signed.{whole}
-use Rattle.signing.proofs.finish.finish.Goals as goal
+use Rattle.signing.proofs.signer.Signer.finish.Goals as goal
 
 pub returns : goal.returns
 returns g c =
     let C : Coding = g.F.Field.coding in
-    let M : Meaning = g.S.Suite.meaning c.args.suite.now in
-    let d : List ℕ = c.args.d.now in
+    let M : Meaning = g.S.Suite.meaning c.args.self.now.instance.suite.now in
+    let d : List ℕ = c.args.self.now.d.now in
     let ans : List ℕ = c.write_first.new.answer in
-    let size : c.answers_len-size.result ≡ answers_length C.bits c.args.set = c.answers_len-size.ensures.value ∙ ap (λ (b : ℕ). answers_length b c.args.set) c.encoding.ensures.bits in
-    let lR : length c.args.randomizer.now ≡ 32 = omega arith in
+    let size : c.answers_len-size.result ≡ answers_length C.bits c.args.self.now.instance.set.set = c.answers_len-size.ensures.value ∙ ap (λ (b : ℕ). answers_length b c.args.self.now.instance.set.set) c.encoding.ensures.bits in
+    let lR : length c.args.self.now.randomizer.now ≡ 32 = c.args.self.now.long in
     let lb : length c.args.base.now ≡ 32 = omega arith in
     let bits : List ℕ = c.second_challenges.new.bits in
-    let few : length c.second_challenges.new.bits ≡ c.args.set.r = search rules in
-    whole C M (g.met.S.Suite.lawful c.args.suite.now) c.args.set c.args.cs.now c.args.s.now c.args.k.now d
-    c.args.randomizer.now c.args.base.now c.args.h1.now c.args.alphas.now ans (answers_length C.bits c.args.set) lR lb c.requires.base c.requires.h1 c.requires.alphas c.write_first.ensures
+    let few : length c.second_challenges.new.bits ≡ c.args.self.now.instance.set.set.r = search rules in
+    whole C M (g.met.S.Suite.lawful c.args.self.now.instance.suite.now) c.args.self.now.instance.set.set c.args.self.now.instance.map.cs.now c.args.self.now.s.now c.args.self.now.k.now d
+    c.args.self.now.randomizer.now c.args.base.now c.args.h1.now c.args.alphas.now ans (answers_length C.bits c.args.self.now.instance.set.set) lR lb c.requires.base c.requires.h1 c.requires.alphas c.write_first.ensures
     c.second_challenges.new.bits c.args.list.now c.write_second.new.answer (length bits) few c.requires.list
     (c.second_challenges.ensures
     ∙ ap (λ (n : ℕ). first (M.e 12 (M.d 6 (d ++ (c.args.base.now ++ (c.args.h1.now ++ part ans 64 c.answers_len-size.result))))) n) (sym c.second_challenges.auto.bits)
