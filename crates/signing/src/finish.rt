@@ -9,9 +9,10 @@ ghost use Rattle.signing.specs.Steps.{behind_r};
 
 use crate::signer::{Desk, Signer};
 use field::Field;
-use scheme::challenge::second_challenges;
+use scheme::challenge::challenge_bits;
 use scheme::sizes::ROUNDS;
 use suite::Suite;
+use wire::VECTORS;
 use wire::layout::Layout;
 
 impl<F: Field, S: Suite> Signer<'_, F, S> {
@@ -44,7 +45,8 @@ impl<F: Field, S: Suite> Signer<'_, F, S> {
         self.write_first(base, alphas, desk, answer);
         let mut drawn = [0u8; ROUNDS];
         let bits = &mut drawn[0..set.set.r];
-        second_challenges(self.instance.suite, self.d, base, h1, answer, size, bits);
+        let answers = &answer[VECTORS..VECTORS + size];
+        challenge_bits(self.instance.suite, self.d, base, h1, answers, bits);
         self.write_second(list, bits, desk, answer);
     }
 }
