@@ -23,9 +23,6 @@ pub comes_made : (out : Result (List ℕ) Refusal) (n : ℕ) (bytes : List ℕ) 
 comes_made out n bytes h = record { answer = sym (ap told h); held = sym (ap (written n) h) }
 
 module _ (C : Coding) (M : Meaning) (set : Set) (cs s K Rm Dm : List ℕ) where
-  pub pools_stop : (e : Refusal) → Err e ≡ pools_of C M set K Dm → rounds_of C M set cs s K Rm Dm ≡ Err e
-  pools_stop e h = rw (← h)
-
   -- σ0, as the code works it out
   pub base_is : (ls base : List ℕ) → ls ≡ list C M set cs s K Dm → base ≡ M.d 2 (ls ++ []) → base ≡ σ0 C M set cs s K Dm
   unfolding σ0

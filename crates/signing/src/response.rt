@@ -68,8 +68,8 @@ pub fn carry(set: GoodSet, list: &[u8], bits: &[u8], out: &mut [u8])
     requires out { length out.old ≡ set.set.r * 32 }
     ensures { out.new ≡ carried set.set list.now bits.now }
 {
-    for i in 0..set.set.r {
+    for (i, bit) in bits.iter().enumerate() {
         let at = i * 32;
-        carry_round(list, i, bits[i] % 2, &mut out[at..at + 32]);
+        carry_round(list, i, *bit % 2, &mut out[at..at + 32]);
     }
 }
