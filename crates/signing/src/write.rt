@@ -10,6 +10,7 @@ use crate::response::carry;
 use crate::signer::{Desk, Signer};
 use field::Field;
 use suite::Suite;
+use wire::VECTORS;
 use wire::layout::Layout;
 
 impl<F: Field, S: Suite> Signer<'_, F, S> {
@@ -25,12 +26,12 @@ impl<F: Field, S: Suite> Signer<'_, F, S> {
             set,
             encoding: F::encoding(),
         };
-        let end = 64 + layout.answers_len();
+        let end = VECTORS + layout.answers_len();
         let randomizer = self.randomizer;
         answer[0..32].copy_from_slice(randomizer);
         answer[32..64].copy_from_slice(base);
         // not refused: each round draws what it drew before
-        let _ = self.answer(alphas, desk, &mut answer[64..end]);
+        let _ = self.answer(alphas, desk, &mut answer[VECTORS..end]);
     }
 
     // The responses and the other sides' commitments, behind what is written.
@@ -46,8 +47,9 @@ impl<F: Field, S: Suite> Signer<'_, F, S> {
             set,
             encoding: F::encoding(),
         };
-        let at = 64 + layout.answers_len();
+        let at = VECTORS + layout.answers_len();
         let end = at + layout.responses_len();
+        // not refused either
         let _ = self.respond(bits, desk, &mut answer[at..end]);
         carry(set, list, bits, &mut answer[end..]);
     }
