@@ -48,7 +48,8 @@ fn check_buffers(
     lent(Buffer::Answer, answer == set.signature_len(encoding))
 }
 
-// Writes the signature under the seeds K and S of a secret key, over buffers that are long enough.
+// Writes the signature under the seeds K and S of a secret key, over buffers that are long enough, each by itself, as C lends
+// them.
 fn sign_seeds<F: Field, S: Suite>(
     set: GoodSet,
     suite: &S,

@@ -68,6 +68,7 @@ pub fn carry(set: GoodSet, list: &[u8], bits: &[u8], out: &mut [u8])
     requires out { length out.old ≡ set.set.r * 32 }
     ensures { out.new ≡ carried set.set list.now bits.now }
 {
+    // `out` by index, as in `each_round`: after a walk over its chunks a proof knows only how long it is.
     for (i, bit) in bits.iter().enumerate() {
         let at = i * 32;
         carry_round(list, i, *bit % 2, &mut out[at..at + 32]);
