@@ -47,12 +47,6 @@ module _ (C : Coding) (M : Meaning) (set : Set) (cs s K Rm Dm : List ℕ) where
 
 -- with the map and the secret vector that are drawn for it
 module _ (C : Coding) (M : Meaning) (set : Set) (K seed message : List ℕ) where
-  pub secret_stop : (e : Refusal) → Err e ≡ told (drawn C M 9 K set.n) → signed_of C M set K seed message ≡ Err e
-  secret_stop e h = rw (← h)
-
-  pub map_stop : (e : Refusal) → Ok tt ≡ told (drawn C M 9 K set.n) → Err e ≡ told (drawn C M 8 seed (coefficients_of set)) → signed_of C M set K seed message ≡ Err e
-  map_stop e p h = rw (← p, ← h)
-
   pub rounds_decide : Ok tt ≡ told (drawn C M 9 K set.n) → Ok tt ≡ told (drawn C M 8 seed (coefficients_of set))
       → signed_of C M set K seed message ≡ rounds_of C M set (coefficients C M set K seed message) (secret_vector C M set K seed message) K (R C M set K seed message) (D C M set K seed message)
   unfolding signature
