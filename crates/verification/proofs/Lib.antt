@@ -3,4 +3,3 @@ pub mod Vectors
 pub mod Flattened
 pub mod Joined
 pub mod Heard
-pub mod Checks

@@ -17,6 +17,12 @@ key_vector b m out key h e =
     ∙ ap (λ (k : ℕ). elements b k (take (length key - 32) (drop 32 key))) (front_long m (replicate {A = ℕ} 64 0) h)
     ∙ ap (elements b m) (take_rest key 32)
 
+pub new-instance-requires : goal.new-instance-requires
+new-instance-requires g c =
+    let drawn = c.in_ok-draw_into.ensures.elements refl in
+    rw (front_is c.coefficients-count.result c.draw_into.new.buffer)
+    (record { long = drawn.long ∙ c.coefficients-count.ensures.value; codes = drawn.codes })
+
 pub decide_drawn-requires-clause-v : goal.decide_drawn-requires-clause-v
 decide_drawn-requires-clause-v g c =
     let C : Coding = g.F.Field.coding in
