@@ -1,7 +1,7 @@
 // Why a signature is not accepted.
 use crate::trouble::Trouble;
 
-// Apart from the kit's `Refusal`, so that a verdict is come to with no type of the kit's.
+// Apart from the kit's `Refusal`, so that a verdict is come to with no type of the kit's but a suite's refusal.
 #[derive(Clone, Copy, PartialEq, Eq, Debug)]
 pub enum Refused {
     BadSet,
