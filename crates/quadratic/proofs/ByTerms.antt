@@ -1,6 +1,7 @@
 -- The sums over monomials are the map, and the sums over cross terms its polar form.
-use Rattle.std.proofs.Common.{◌≡◌, ℕ, ◌+◌, ◌*◌, ◌<◌, ◌≤◌, List, length, drop, sym, ap, ◌∙◌, subst, add-mul, arith, length-drop}
+use Rattle.std.proofs.Common.{◌≡◌, ℕ, ◌+◌, ◌-◌, ◌*◌, ◌<◌, ◌≤◌, List, map, length, take, drop, sym, ap, ◌∙◌, ap₂, subst, add-mul, arith, length-drop}
 use mathlib.Core.Path.{fun_ext}
+use native.Mathlib.Nat.{sub-zero}
 use Rattle.std.proofs.lemmas.Nat.{mul-le}
 use Rattle.std.proofs.lemmas.List.{get_or-drop}
 use Rattle.field.specs.Ring.{Ops}
@@ -42,3 +43,8 @@ module _ {q : ℕ} {o : Ops ℕ} {inv : ℕ → ℕ} (K : Field q o inv) where
       ∙ subst (λ (n : ℕ). length cs ≡ m * size n → sums o m cs (size n) (crosses o x y) ≡ G o m n cs x y) e
       (λ long. tab_cong o m _ (at o (G o m (length x) cs x y)) (λ e l. cross_entry K m e cs x y l same (omega (arith, room m (length x) e cs l long)) hc hx hy)
       ∙ tab_at o m (G o m (length x) cs x y) (G_length o m (length x) cs x y)) long
+
+-- the same sums, of what the code has
+pub sums_of_lem : (o : Ops ℕ) (m : ℕ) (cs : List ℕ) (step step' : ℕ) (stands : ℕ → ℕ) (ts all : List ℕ) (l : ℕ) → step ≡ step' → map stands (take l ts) ≡ all
+    → sums o m cs step (map stands (take (l - 0) ts)) ≡ sums o m cs step' all
+sums_of_lem o m cs step step' stands ts all l e f = ap₂ (sums o m cs) e (ap (λ (k : ℕ). map stands (take k ts)) (sub-zero l) ∙ f)

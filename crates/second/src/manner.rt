@@ -53,7 +53,7 @@ impl Manner {
     }
 
     // Turns the challenges into those that the rounds answer to.
-    pub fn turn_alphas(self, alphas: &mut [u8]) {
+    pub(crate) fn turn_alphas(self, alphas: &mut [u8]) {
         if let Manner::AlphaOfNext { round } = self {
             let next = at(alphas, round.wrapping_add(1));
             if let Some(alpha) = alphas.get_mut(round) {

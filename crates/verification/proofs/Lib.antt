@@ -3,3 +3,4 @@ pub mod Vectors
 pub mod Flattened
 pub mod Joined
 pub mod Heard
+pub mod Places
