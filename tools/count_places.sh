@@ -1,5 +1,5 @@
 #!/bin/bash
-# usage: count.sh  (at the top of a checkout)
+# Counts, at the top of a checkout, the candidates that docs/DESIGN-PASS.md lists.
 S='crates/*/src'
 n() { printf '%-4s %s\n' "$1" "$(eval "$2" | wc -l)"; }
 n 1a "grep -rnE 'Err\((e|fault|refusal|trouble|_)\) =>' $S"
