@@ -10,7 +10,8 @@ use report::hex::Hex;
 use suite::{DIGEST_LIMIT, STREAM_LIMIT, Suite};
 use suites::Named;
 
-// A refusal by a suite that was asked alone: its line is all that is said.
+// A refusal by a suite that was asked alone: its line is all that is said. A type of its own: `map_err(Failure::Suite)` gets no proof,
+// as its result names a lifetime that no argument of it has.
 #[derive(Clone, Copy)]
 struct Unanswered(Refusal);
 

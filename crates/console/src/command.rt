@@ -6,6 +6,7 @@ use crate::scan::run_scan;
 use crate::session::Session;
 use params::Set;
 use std::io;
+use std::str::FromStr;
 use suites::Named;
 
 // What is printed where the words make no command.
@@ -19,30 +20,30 @@ pub const USAGE: &str = "usage: mqdss scan N M R FILE
        mqdss demo SUITE N M R SECRETFILE MESSAGEFILE DAMAGEDFILE
 SUITE is bench or keccak; N, M, R, LABEL (0 to 255) and COUNT are decimal; files are raw bytes";
 
-// A number of a parameter set.
-fn number(word: &str) -> Result<usize, Failure<'_>> {
-    word.parse().map_err(|_| Failure::Usage)
+// What a word says; `wrong` where it says nothing of that kind.
+fn said<'a, T: FromStr<Err: Drop>>(word: &'a str, wrong: Failure<'a>) -> Result<T, Failure<'a>> {
+    word.parse().map_err(|_| wrong)
 }
 
 // The three numbers of a parameter set, in decimal.
 fn set_of<'a>(n: &'a str, m: &'a str, r: &'a str) -> Result<Set, Failure<'a>> {
     Ok(Set {
-        n: number(n)?,
-        m: number(m)?,
-        r: number(r)?,
+        n: said(n, Failure::Usage)?,
+        m: said(m, Failure::Usage)?,
+        r: said(r, Failure::Usage)?,
     })
 }
 
 fn suite_of(name: &str) -> Result<Named, Failure<'_>> {
-    name.parse().map_err(|_| Failure::NoSuite(name))
+    said(name, Failure::NoSuite(name))
 }
 
 fn label_of(word: &str) -> Result<u8, Failure<'_>> {
-    word.parse().map_err(|_| Failure::NoLabel(word))
+    said(word, Failure::NoLabel(word))
 }
 
 fn count_of(word: &str) -> Result<usize, Failure<'_>> {
-    word.parse().map_err(|_| Failure::NoCount(word))
+    said(word, Failure::NoCount(word))
 }
 
 // A suite and a set, by their words.

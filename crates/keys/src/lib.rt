@@ -29,9 +29,9 @@ pub const SEED: usize = 32;
 pub const SECRET: usize = 1024;
 
 // The labels of the drawings that make a key.
-const LABEL_MAP: u8 = 8;
+pub const LABEL_MAP: u8 = 8;
 
-const LABEL_SECRET: u8 = 9;
+pub const LABEL_SECRET: u8 = 9;
 
 // A buffer that the caller lends: refused unless its length fits.
 pub fn lent(buffer: Buffer, fits: bool) -> Result<(), Refusal>
@@ -51,13 +51,9 @@ pub fn lent(buffer: Buffer, fits: bool) -> Result<(), Refusal>
 pub fn halves(key: &[u8]) -> Result<(&[u8; SEED], &[u8; SEED]), Refusal>
     ensures { Halves key.now result }
 {
-    match key.split_first_chunk::<SEED>() {
-        Some((k, s)) => match <&[u8; SEED]>::try_from(s) {
-            Ok(s) => Ok((k, s)),
-            Err(_) => Err(Refusal::KeyLength),
-        },
-        None => Err(Refusal::KeyLength),
-    }
+    let (k, s) = key.split_first_chunk::<SEED>().ok_or(Refusal::KeyLength)?;
+    let s = <&[u8; SEED]>::try_from(s).map_err(|_| Refusal::KeyLength)?;
+    Ok((k, s))
 }
 
 // Whether `key` is a public key of the set: its length, its elements and its pad.
@@ -73,7 +69,7 @@ pub fn check_key<F: Field>(set: Set, key: &[u8]) -> Result<(), Refusal>
     inspect(encoding, m, &key[SEED..]).map_err(|fault| fault.in_key(m))
 }
 
-// The lengths of the buffers that key making is lent.
+// The lengths of the buffers that key making is lent. Each call lends other buffers, and the order in which they are refused is its own.
 fn check_buffers(
     encoding: Encoding,
     set: GoodSet,
@@ -94,6 +90,7 @@ fn write_packed<F: Field>(map: &Map<'_, F>, x: &[u8], seed: &[u8; SEED], answer:
     requires room { length answer.old ≡ 32 + width F.Field.coding.bits map.now.m }
     ensures { answer.new ≡ seed.now ++ packed F.Field.coding.bits (map_of F.Field.coding.ops map.now.m map.now.n map.now.cs.now x.now) }
 {
+    // An array of which the set takes a part: no call takes heap.
     let mut v = [0u8; 64];
     let entries = &mut v[0..map.m];
     map.evaluate(x, entries);

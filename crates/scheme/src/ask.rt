@@ -10,7 +10,8 @@ use refusal::Refusal;
 use suite::Suite;
 use suite::drawing::draw;
 
-// Draws `count` elements into the front of a buffer that has room for the drawing; refused where the stream gives too few.
+// Draws `count` elements into the front of a buffer that has room for the drawing; refused where the stream gives too few. With the
+// room known, no buffer and no limit can be refused: said once for the six drawings of the scheme.
 pub fn draw_into<F: Field, S: Suite>(
     suite: &S,
     label: u8,

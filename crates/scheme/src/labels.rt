@@ -25,9 +25,7 @@ pub const ROUND_SEED: u8 = 7;
 pub const ROUND: u8 = 10;
 
 // The map's coefficients, and the secret vector.
-pub const MAP: u8 = 8;
-
-pub const SECRET: u8 = 9;
+pub use keys::{LABEL_MAP as MAP, LABEL_SECRET as SECRET};
 
 // The challenges α, and the bits.
 pub const ALPHAS: u8 = 11;

@@ -43,11 +43,8 @@ pub fn ask_in(
 
 // A byte less.
 fn shorter(heap: Global, bytes: &[u8]) -> Result<Vec<u8>, AllocError> {
-    bytes
-        .iter()
-        .copied()
-        .take(bytes.len().saturating_sub(1))
-        .collect(heap)
+    let shorter = bytes.split_last().map_or(bytes, |(_, front)| front);
+    Vec::from_slice(heap, shorter)
 }
 
 // A byte less, a byte more, and none.

@@ -43,6 +43,7 @@ impl<F: Field, S: Suite> Signer<'_, F, S> {
         };
         let size = layout.answers_len();
         self.write_first(base, alphas, desk, answer);
+        // An array of which the set takes a part: no call takes heap.
         let mut drawn = [0u8; ROUNDS];
         let bits = &mut drawn[0..set.set.r];
         let answers = &answer[VECTORS..VECTORS + size];

@@ -31,7 +31,7 @@ use wiping::Wiped;
 // The bytes that drawing the secret vector reads.
 const OWN: usize = 136;
 
-// The lengths of the buffers that signing is lent.
+// The lengths of the buffers that signing is lent. Each call lends other buffers, and the order in which they are refused is its own.
 fn check_buffers(
     encoding: Encoding,
     set: GoodSet,

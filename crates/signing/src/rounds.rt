@@ -27,6 +27,7 @@ impl<F: Field, S: Suite> Signer<'_, F, S> {
         self.commit(desk, list)?;
         let base = suite.digest_within(labels::LIST, list, &[]);
         let h1 = suite.digest_within(labels::FIRST_HASH, d, &base);
+        // An array of which the set takes a part: no call takes heap.
         let mut drawn = [0u8; CHALLENGES];
         draw_into::<F, S>(suite, labels::ALPHAS, &h1, &mut drawn, r)?;
         self.finish(list, &base, &h1, &drawn[0..r], desk, answer);

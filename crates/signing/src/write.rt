@@ -31,7 +31,8 @@ impl<F: Field, S: Suite> Signer<'_, F, S> {
         answer[0..32].copy_from_slice(randomizer);
         answer[32..64].copy_from_slice(base);
         // not refused: each round draws what it drew before
-        let _ = self.answer(alphas, desk, &mut answer[VECTORS..end]);
+        self.answer(alphas, desk, &mut answer[VECTORS..end])
+            .unwrap();
     }
 
     // The responses and the other sides' commitments, behind what is written.
@@ -50,7 +51,7 @@ impl<F: Field, S: Suite> Signer<'_, F, S> {
         let at = VECTORS + layout.answers_len();
         let end = at + layout.responses_len();
         // not refused either
-        let _ = self.respond(bits, desk, &mut answer[at..end]);
+        self.respond(bits, desk, &mut answer[at..end]).unwrap();
         carry(set, list, bits, &mut answer[end..]);
     }
 }

@@ -8,7 +8,7 @@ use params::Set;
 use std::io;
 use std::process::ExitCode;
 
-// What a call told: nothing, or the number, layer and place of what it refused.
+// What a call told: nothing, or the number, layer and place of what it refused. In numbers, so that these are tested too.
 pub type Told = Result<(), (u8, u8, usize)>;
 
 // How many cases were as they should be and how many not, and where that is printed.

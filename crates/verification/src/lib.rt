@@ -60,6 +60,7 @@ fn decide_drawn<F: Field, S: Suite>(
 {
     let suite = instance.suite;
     let r = instance.set.set.r;
+    // Arrays of which the set takes a part: no call takes heap.
     let mut elements = [0u8; CHALLENGES];
     let mut bytes = [0u8; ROUNDS];
     let base = signature.base();
@@ -97,6 +98,7 @@ fn decide<F: Field, S: Suite>(
     let set = signature.set;
     let count = set.coefficients();
     let Set { n: _, m, r } = set.set;
+    // Arrays of which the set takes a part: no call takes heap.
     let mut vector = [0u8; 64];
     let seed = key.first_chunk::<SEED>().unwrap();
     draw_into::<F, S>(suite, labels::MAP, seed, map, count)?;
@@ -106,7 +108,8 @@ fn decide<F: Field, S: Suite>(
     decide_drawn::<F, S>(&instance, message, v, &mut list[0..r * 64], signature)
 }
 
-// The lengths of the buffers that verification is lent.
+// The lengths of the buffers that verification is lent. Each call lends other buffers, and the order in which they are refused is
+// its own.
 fn check_buffers(set: GoodSet, map: usize, list: usize) -> Result<(), Refusal>
     ensures { result ≡ verify_buffers_of set.set map list }
 {

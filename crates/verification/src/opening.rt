@@ -30,6 +30,7 @@ impl<F: Field, S: Suite> Opening<'_, F, S> {
         let round = &self.round;
         let instance = round.instance;
         let Set { n, m, r: _ } = instance.set.set;
+        // Arrays of which the set takes a part: no call takes heap.
         let mut t0 = [0u8; 64];
         let mut value = [0u8; 64];
         let mut e0 = [0u8; 64];
@@ -52,6 +53,7 @@ impl<F: Field, S: Suite> Opening<'_, F, S> {
         let round = &self.round;
         let map = &round.instance.map;
         let m = round.instance.set.set.m;
+        // Arrays of which the set takes a part: no call takes heap.
         let mut value = [0u8; 64];
         let mut left = [0u8; 64];
         let mut polar = [0u8; 64];
@@ -74,6 +76,7 @@ impl<F: Field, S: Suite> Opening<'_, F, S> {
     {
         let round = &self.round;
         let instance = round.instance;
+        // Arrays of which the set takes a part: no call takes heap.
         let mut g = [0u8; 64];
         let mut work = [0u8; PACKED];
         let g = &mut g[0..instance.set.set.m];

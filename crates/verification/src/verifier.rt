@@ -39,6 +39,7 @@ impl<F: Field, S: Suite> Verifier<'_, F, S> {
         ensures { result ≡ recomputed F.Field.coding (S.Suite.meaning self.now.instance.now.suite.now) self.now.instance.now.set.set self.now.instance.now.map.cs.now self.now.v.now self.now.signature.now.bytes.now (λ i. slice_index self.now.alphas.now i) (λ i. slice_index self.now.bits.now i % 2) round }
     {
         let Set { n, m, r: _ } = self.instance.set.set;
+        // Arrays of which the set takes a part: no call takes heap.
         let mut t = [0u8; 64];
         let mut e = [0u8; 64];
         let mut r = [0u8; 64];
@@ -80,6 +81,7 @@ impl<F: Field, S: Suite> Verifier<'_, F, S> {
         requires { length list.old ≡ self.now.instance.now.set.set.r * 64 }
         ensures { list.new ≡ commitments F.Field.coding (S.Suite.meaning self.now.instance.now.suite.now) self.now.instance.now.set.set self.now.instance.now.map.cs.now self.now.v.now self.now.signature.now.bytes.now (λ i. slice_index self.now.alphas.now i) (λ i. slice_index self.now.bits.now i % 2) }
     {
+        // Arrays of which the set takes a part: no call takes heap.
         let mut half = [[0u8; 32]; ROUNDS];
         let half = &mut half[0..self.instance.set.set.r];
         self.open_all(half);
