@@ -5,7 +5,7 @@ ghost use Rattle.std.specs.Prelude.{◌≡◌, ℕ, ◌+◌, ◌%◌, ◌^◌, �
 ghost use Rattle.suite_bench.specs.Sums.{lane, bench_meaning};
 ghost use Rattle.suite_bench.specs.Laws.{bench_lawful};
 
-use suite::Suite;
+use suite::WithinLimits;
 
 #[derive(Clone, Copy)]
 pub struct Bench;
@@ -23,7 +23,7 @@ fn absorb(out: &mut [u8], at: usize, part: &[u8])
     }
 }
 
-impl Suite for Bench {
+impl WithinLimits for Bench {
     ghost meaning = { λ _. bench_meaning };
 
     ghost lawful = { λ s. bench_lawful };

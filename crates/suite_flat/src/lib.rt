@@ -4,7 +4,7 @@
 ghost use Rattle.suite_flat.specs.Flat.{flat_meaning};
 ghost use Rattle.suite_flat.specs.Laws.{flat_lawful};
 
-use suite::Suite;
+use suite::WithinLimits;
 use suite_bench::Bench;
 
 // A digest is 32 times the byte label + shift; the stream is the bench suite's.
@@ -13,7 +13,7 @@ pub struct Flat {
     pub shift: u8,
 }
 
-impl Suite for Flat {
+impl WithinLimits for Flat {
     ghost meaning = { λ s. flat_meaning s.shift };
 
     ghost lawful = { λ s. flat_lawful s.shift };

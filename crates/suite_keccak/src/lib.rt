@@ -5,12 +5,12 @@ ghost use Rattle.suite_keccak.specs.Hashes.{keccak_meaning};
 ghost use Rattle.suite_keccak.specs.Laws.{keccak_lawful};
 
 use sha3::{sha3_256_parts, shake128_labelled};
-use suite::Suite;
+use suite::WithinLimits;
 
 #[derive(Clone, Copy)]
 pub struct Keccak;
 
-impl Suite for Keccak {
+impl WithinLimits for Keccak {
     ghost meaning = { λ _. keccak_meaning };
 
     ghost lawful = { λ s. keccak_lawful };

@@ -10,7 +10,7 @@ ghost use Rattle.suites.specs.declared.Named.TheVariants.{Bench, Keccak};
 mod names;
 
 pub use names::UnknownSuite;
-use suite::Suite;
+use suite::WithinLimits;
 use suite_bench::Bench;
 use suite_keccak::Keccak;
 
@@ -31,7 +31,7 @@ impl Named {
     }
 }
 
-impl Suite for Named {
+impl WithinLimits for Named {
     ghost meaning = { meaning_of };
 
     ghost lawful = { elim [ Bench ↦ bench_lawful | Keccak ↦ keccak_lawful ] };

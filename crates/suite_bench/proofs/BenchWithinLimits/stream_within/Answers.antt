@@ -1,7 +1,7 @@
 use Rattle.std.proofs.Common.{length, arith}
 use Rattle.std.proofs.lemmas.List.FromFn.{fill_by_all}
 use Rattle.suite_bench.specs.Sums.{bench_e}
-use Rattle.suite_bench.proofs.BenchSuite.stream_within.Goals as goal
+use Rattle.suite_bench.proofs.BenchWithinLimits.stream_within.Goals as goal
 
 pub returns : goal.returns
 returns c =

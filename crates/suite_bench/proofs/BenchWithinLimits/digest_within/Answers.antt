@@ -2,7 +2,7 @@ use Rattle.std.proofs.Common.{◌≡◌, ℕ, ◌+◌, List, ◌++◌, length, a
 use Rattle.std.proofs.lemmas.List.{get_or-replicate}
 use Rattle.suite_bench.specs.Sums.{lane}
 use Rattle.suite_bench.specs.Lanes.{bench_d_is, lane_append}
-use Rattle.suite_bench.proofs.BenchSuite.digest_within.Goals as goal
+use Rattle.suite_bench.proofs.BenchWithinLimits.digest_within.Goals as goal
 
 pub absorb-requires-clause-bytes : goal.absorb-requires-clause-bytes
 absorb-requires-clause-bytes c = λ i il. omega (arith, get_or-replicate 32 i c.args.label 0 il)
