@@ -3,7 +3,7 @@
 
 ghost use Rattle.std.specs.Prelude.{◌≡◌, ◌≤◌, true, IfOk};
 ghost use Rattle.refusal.specs.Outcome.{told};
-ghost use Rattle.params.specs.Sets.{set_of};
+ghost use Rattle.params.specs.Sets.{good, set_of};
 ghost use Rattle.params.specs.Sizes.{coefficients_of, key_length, signature_length};
 
 mod good;
@@ -39,6 +39,30 @@ impl Set {
         } else {
             Err(Refusal::BadSet)
         }
+    }
+
+    // The sizes of a set that is known to be lawful, for callers with no answer of `check` at hand.
+    pub fn coefficients(self) -> usize
+        requires { good self ≡ true }
+        ensures value { result ≡ coefficients_of self }
+        ensures few { result ≤ 137216 }
+    {
+        GoodSet { set: self }.coefficients()
+    }
+
+    pub fn key_len(self, encoding: Encoding) -> usize
+        requires { good self ≡ true }
+        ensures { result ≡ key_length encoding.bits self }
+    {
+        GoodSet { set: self }.key_len(encoding)
+    }
+
+    pub fn signature_len(self, encoding: Encoding) -> usize
+        requires { good self ≡ true }
+        ensures value { result ≡ signature_length encoding.bits self }
+        ensures few { result ≤ 60320 }
+    {
+        GoodSet { set: self }.signature_len(encoding)
     }
 }
 
