@@ -2,6 +2,22 @@
 use anyhow::anyhow;
 use std::alloc::{AllocError, Global};
 
+// The bytes that pairs of digits write, 0 to 9 and a to f: `hex` alone would take capitals too, and refuse a last digit that has no
+// second, which counts for nothing here.
+fn unhex(heap: Global, text: &str) -> anyhow::Result<Vec<u8>> {
+    let mut bytes = Vec::new(heap);
+    for pair in text.as_bytes().chunks_exact(2) {
+        let mut byte = [0u8];
+        if pair.iter().any(|b| b.is_ascii_uppercase())
+            || hex::decode_to_slice(pair, &mut byte).is_err()
+        {
+            return Err(anyhow!("a digit that is not hexadecimal"));
+        }
+        bytes.push(byte[0])?;
+    }
+    Ok(bytes)
+}
+
 // `len` bytes, those of `piece` over and over.
 fn repeated(heap: Global, piece: &[u8], len: usize) -> Result<Vec<u8>, AllocError> {
     piece.iter().copied().cycle().take(len).collect(heap)
@@ -36,9 +52,9 @@ where
     for line in text.lines() {
         match line.split_once(" = ") {
             Some(("LEN", value)) => len = value.parse::<usize>()?,
-            Some(("MSG", value)) => piece = hex::decode(heap, value)?,
+            Some(("MSG", value)) => piece = unhex(heap, value)?,
             Some(("MD", value)) => {
-                let expected = hex::decode(heap, value)?;
+                let expected = unhex(heap, value)?;
                 let message = repeated(heap, &piece, len)?;
                 if !passes(message, &expected, &gives)? {
                     return Err(anyhow!("a vector fails"));
