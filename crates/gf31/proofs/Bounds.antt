@@ -7,7 +7,7 @@ use Rattle.field.specs.Terms.{pairs}
 use Rattle.field.proofs.Pairs.{length_pairs}
 use Rattle.gf31.specs.Whole.{whole, AtMonomials}
 
-pair_few : (a b : ℕ) → a < 31 → b < 31 → a * b ≤ 900
+pub pair_few : (a b : ℕ) → a < 31 → b < 31 → a * b ≤ 900
 pair_few a b h k = mul-le a b 30 30 (omega arith) (omega arith)
 
 -- of a code and a term at the same place
